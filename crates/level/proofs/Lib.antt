@@ -1,0 +1,7 @@
+pub mod Range
+pub mod Scaled
+pub mod Rising
+pub mod Corrections
+pub mod Sides
+pub mod Readings
+mod Examples

@@ -1,0 +1,64 @@
+-- What `readingOf` is, kind by kind. Assumes nothing.
+use mathlib.Core.Path.{_≡_, refl, sym}
+use mathlib.Core.Bool.{Bool, true, false, cond}
+use Prim.Native.Nat.{ℕ, _≤_, _<_}
+use native.Mathlib.Omega.{arith}
+use lib.Ieee.{Float, binary32, ofBits}
+use borrow.Author.Tests.{eq-eqb, ne-eqb}
+use Rattle.level.specs.declared.Reading.the-variants.{Level, Overload, Absent}
+use Rattle.level.specs.declared.Found.the-variants.{Good, Broken}
+use Rattle.level.specs.declared.Pattern.the-variants.{InRange, Outside}
+use Rattle.level.specs.Level.{inRange}
+use Rattle.level.specs.Reading.{readingOf, levelOf}
+
+-- ---- what the answer for a pattern says of its float
+
+pub inside : (x y : Float) → InRange x ≡ levelOf y → (x ≡ y) × (inRange y ≡ true)
+unfolding levelOf
+inside x y e = by (inRange y) e
+  where
+    by : (b : Bool) → InRange x ≡ cond b (InRange y) Outside → (x ≡ y) × (b ≡ true)
+    by true h = (cc, refl)
+    by false h = let z : _≡_ {A = ℕ} 0 1 = cc in absurd (omega arith)
+
+pub outside : (y : Float) → Outside ≡ levelOf y → inRange y ≡ false
+unfolding levelOf
+outside y e = by (inRange y) e
+  where
+    by : (b : Bool) → Outside ≡ cond b (InRange y) Outside → b ≡ false
+    by true h = let z : _≡_ {A = ℕ} 0 1 = cc in absurd (omega arith)
+    by false h = refl
+
+-- ---- kind by kind
+
+either : (b : Bool) → cond b Broken Broken ≡ Broken
+either true = refl
+either false = refl
+
+module _ (kind pattern : ℕ) where
+  pub absent : kind ≡ 0 → pattern ≡ 0 → readingOf kind pattern ≡ Good Absent
+  unfolding readingOf
+  absent k p = simp (eq-eqb kind 0 k, eq-eqb pattern 0 p)
+
+  pub absent-broken : kind ≡ 0 → (pattern ≡ 0 → ⊥) → readingOf kind pattern ≡ Broken
+  unfolding readingOf
+  absent-broken k p = simp (eq-eqb kind 0 k, ne-eqb pattern 0 p)
+
+  pub unknown-broken : 2 < kind → readingOf kind pattern ≡ Broken
+  unfolding readingOf
+  unknown-broken k = simp (ne-eqb kind 0 (omega arith), ne-eqb kind 1 (omega arith), ne-eqb kind 2 (omega arith))
+
+  pub level : (x : Float) → kind ≡ 1 → InRange x ≡ levelOf (ofBits binary32 pattern) → readingOf kind pattern ≡ Good (Level x)
+  unfolding readingOf
+  level x k e = let i = inside x (ofBits binary32 pattern) e in simp (ne-eqb kind 0 (omega arith), eq-eqb kind 1 k, i .1, i .0)
+
+  pub overload : (x : Float) → kind ≡ 2 → InRange x ≡ levelOf (ofBits binary32 pattern) → readingOf kind pattern ≡ Good (Overload x)
+  unfolding readingOf
+  overload x k e =
+      let i = inside x (ofBits binary32 pattern) e in
+      simp (ne-eqb kind 0 (omega arith), ne-eqb kind 1 (omega arith), eq-eqb kind 2 k, i .1, i .0)
+
+  pub level-broken : (kind ≡ 0 → ⊥) → Outside ≡ levelOf (ofBits binary32 pattern) → readingOf kind pattern ≡ Broken
+  unfolding readingOf
+  level-broken k e =
+      simp (ne-eqb kind 0 k, outside (ofBits binary32 pattern) e, either)
