@@ -16,8 +16,6 @@ level c = c .before .before .before .before .before .before .before .before .arg
 abbrev background : tie.After-struct-known5 → ℕ
 background c = c .before .before .before .before .before .before .before .before .args .background .0
 
--- `level::corrected` meets its contract, by the laws of a side. What is taken off is at most 0.5, and d is at least 10.0. Assumes nothing.
-
 returns : tie.Need-returns
 returns c = sym (too-near _ _ (omega arith))
 

@@ -6,8 +6,6 @@ use Rattle.level.proofs.Range.{nan-out, no-nan}
 use Rattle.level.proofs.level_of.Statement.{statement}
 use Rattle.level.proofs.level_of.Tie as tie
 
--- `level::level_of` meets its contract: the pattern of a NaN is no level's, and of any other `in_range` decides. Assumes nothing.
-
 returns : tie.Need-returns
 unfolding levelOf
 returns c = simp (nan-out _ (c .if1 .taken))

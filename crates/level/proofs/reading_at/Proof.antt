@@ -17,8 +17,6 @@ use Rattle.level.proofs.reading_at.Tie as tie
 found : (c : tie.After-level-of) → let s = c .before .before .before .before .before in c .level-of .result ≡ levelOf (ofBits binary32 (number (now (s .args .s)) (s .args .at) 4))
 found c = c .level-of .ensures ∙ ap (λ (p : ℕ). levelOf (ofBits binary32 p)) (c .before .before .before .number32 .ensures)
 
--- `level::reading_at` meets its contract, kind by kind. Assumes nothing.
-
 number32-requires : tie.Need-number32-requires
 number32-requires c κs = search needs
 

@@ -11,10 +11,6 @@ use Rattle.level.specs.declared.Reading.{Reading}
 use Rattle.level.proofs.side_of.Statement.{statement}
 use Rattle.level.proofs.side_of.Tie as tie
 
--- `level::side_of` meets its contract, arm by arm. Assumes nothing.
-
--- `level::side_of` meets its contract, arm by arm. Assumes nothing.
-
 enum-known-reading : tie.Need-enum-known-reading
 enum-known-reading c = search needs
 

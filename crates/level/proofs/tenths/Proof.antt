@@ -15,9 +15,6 @@ facts c = scaled (c .before .args .x) (c .row-known .given) (c .before .pre)
 right : (c : tie.After-round) → c .round .result ≡ tenthsOf (c .before .before .before .args .x)
 right c = c .round .ensures ∙ facts (c .before .before) .tenths
 
--- `level::tenths` meets its contract: 2^19 times the level is a whole number, whose tenths are the level's (`Scaled`).
--- Assumes nothing.
-
 float-to-float-n : tie.Need-float-to-float-n
 float-to-float-n c = let n = facts c .number in search needs
 
