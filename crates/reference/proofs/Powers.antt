@@ -7,27 +7,14 @@ use Prim.Native.Nat.{ℕ, zero, suc, _+_, _-_, _*_, _^_, _≤_, _<_}
 use native.Mathlib.Nat.{le-of-eq, le-trans, lt-of-le-of-lt, lt-of-lt-of-le, lt-irrefl, le-antisymm, le-of-suc-le-suc, add-zero, lt-of-not-le, pow-le-pow-left, pow-le-pow-right}
 use native.Mathlib.Omega.{arith}
 use lib.Dec.{T, leb, ltb, lit<, leb→le, le→leb, ltb→lt, lt→ltb}
-use lib.Arith.{lt-of-le-ne}
 use lib.ListN.{length, getD}
 use lib.Ieee.Fits.{and-i, and-l, and-r}
 use borrow.Author.Tests.{ltb-true, ltb-false}
+use Rattle.units.specs.Lowest.{lowest}
 use Rattle.units.proofs.Table.{every, at}
-use Rattle.reference.specs.Reference.{between, lowest}
+use Rattle.units.proofs.Lowest.{lowest-alone}
+use Rattle.reference.specs.Reference.{between}
 use Rattle.reference.specs.Place.{Placed}
-
--- ---- the number that alone passes a test is the lowest that does
-
-pub lowest-is : (test : ℕ → Bool) (N : ℕ) → T (test N) → ((M : ℕ) → T (test M) → M ≡ N) → (count from : ℕ) → from ≤ N → N < from + count → lowest test count from ≡ N
-unfolding lowest
-lowest-is test N t alone zero from lo hi = absurd (omega arith)
-lowest-is test N t alone (suc count) from lo hi = by (test from) refl (λ below. lowest-is test N t alone count (suc from) below (omega arith))
-  where
-    by : (b : Bool) → test from ≡ b → (from < N → lowest test count (suc from) ≡ N) → lowest test (suc count) from ≡ N
-    by true e rest = rw (e, lowest) (alone from (rw e tt))
-    by false e rest = rw (e, lowest) (rest (lt-of-le-ne lo (λ same. failed (rw same at e))))
-      where
-        failed : test N ≡ false → ⊥
-        failed f = rw f at t
 
 -- ---- the two tests of a definition, as facts
 
@@ -58,7 +45,7 @@ module _ (e from to q : ℕ) where
 
   -- so `lowest` finds it
   pub lowest-between : to ≤ from + 2 → (N : ℕ) → T (between e from to q N) → N < 400 → lowest (between e from to q) 400 0 ≡ N
-  lowest-between w N t h = lowest-is (between e from to q) N t (λ M s. between-unique w M N s t) 400 0 (omega arith) (omega arith)
+  lowest-between w N t h = lowest-alone (between e from to q) N t (λ M s. between-unique w M N s t) 400 0 (omega arith) (omega arith)
 
 -- ---- a table of starts
 

@@ -7,7 +7,8 @@ use native.Mathlib.Nat.{add-zero, le-refl, lt-irrefl, le-trans, lt-of-le-of-lt, 
 use native.Mathlib.Omega.{arith}
 use lib.Dec.{T, leb, ltb, leb→le, ltb→lt}
 use borrow.Author.Tests.{ltb-true, ltb-false, lt-ltb, le-ltb}
-use Rattle.reference.specs.Reference.{between, lowest, aUrban, aRef}
+use Rattle.units.specs.Lowest.{lowest}
+use Rattle.reference.specs.Reference.{between, aUrban, aRef}
 use Rattle.reference.proofs.Powers.{tests, between-unique, lowest-between}
 
 -- q has an N from `low` to below `top`

@@ -1,8 +1,9 @@
 -- PMR and the two reference accelerations (document 01, "Gears"). q is PMR in tenths; accelerations are in hundredths of m/s².
-use Prim.Native.Nat.{ℕ, zero, suc, _+_, _*_, _^_}
-use mathlib.Core.Bool.{Bool, true, false, cond, _&&_}
+use Prim.Native.Nat.{ℕ, _+_, _*_, _^_}
+use mathlib.Core.Bool.{Bool, cond, _&&_}
 use lib.Dec.{leb, ltb}
 use Rattle.units.specs.Rounding.{rounded}
+use Rattle.units.specs.Lowest.{lowest}
 
 -- PMR = 1000 × P / m, P in kW and m in kg, rounded to a tenth: in tenths, from P in tenths of kW
 unfoldable pub pmrOf : ℕ → ℕ → ℕ
@@ -13,11 +14,6 @@ pmrOf power mass = rounded (1000 * power) mass
 -- N - 1/2 ≤ 63 log10(q / 10) - 9 < N + 1/2 is 2N + 143 ≤ 126 log10(q) < 2N + 145.
 unfoldable pub between : ℕ → ℕ → ℕ → ℕ → ℕ → Bool
 between e from to q N = leb (10 ^ (2 * N + from)) (q ^ e) && ltb (q ^ e) (10 ^ (2 * N + to))
-
--- the lowest number that passes the test among `count` numbers from N on, and the number after them if none does
-unfoldable pub lowest : (ℕ → Bool) → ℕ → ℕ → ℕ
-lowest test zero N = N
-lowest test (suc count) N = elim (test N) [ true ↦ N | false ↦ lowest test count (suc N) ]
 
 -- a_urban = 63 log10(PMR) - 9, rounded: the N with 10^(2N+143) ≤ q^126 < 10^(2N+145), looked for below 4.00
 unfoldable pub aUrban : ℕ → ℕ
