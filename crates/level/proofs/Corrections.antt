@@ -43,7 +43,7 @@ unfolding correctionOf
 correction-falls d e h = never-rising (d / 10 - 10) (e / 10 - 10) (omega arith)
 
 pub correction-small : (d : ℕ) → correctionOf d ≤ 5
-unfolding correctionOf
+unfolding correctionOf corrections
 correction-small d = never-rising 0 (d / 10 - 10) (omega arith)
 
 -- over one background, a higher level never has a lower corrected level

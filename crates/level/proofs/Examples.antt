@@ -5,16 +5,17 @@ use mathlib.Core.Bool.{Bool, true, false, _&&_, not}
 use Prim.Native.Nat.{ℕ}
 use lib.Dec.{T, eqb}
 use lib.Ieee.{binary32, ofBits}
+use Rattle.units.specs.Rounding.{rounded}
 use Rattle.level.specs.declared.Reading.the-variants.{Level, Overload, Absent}
 use Rattle.level.specs.declared.Found.{Found}
 use Rattle.level.specs.declared.Found.the-variants.{Good, Broken}
 use Rattle.level.specs.declared.Side.the-variants.{Corrected, NotValid}
 use Rattle.level.specs.Level.{inRange, tenthsOf}
 use Rattle.level.specs.Reading.{readingOf}
-use Rattle.level.specs.Correction.{correctedSide}
+use Rattle.level.specs.Correction.{corrections, correctionOf, correctedSide}
 
 tenths-of-pattern : ℕ → ℕ
-unfolding tenthsOf ofBits
+unfolding tenthsOf ofBits rounded
 tenths-of-pattern p = tenthsOf (ofBits binary32 p)
 
 -- 72.25 gives 72.3, 72.125 gives 72.1; the ends of the range are themselves
@@ -24,27 +25,27 @@ rounding = tt
 
 -- over 40.0: d 10.9 takes 0.5 off, d 15.0 and d 16.0 nothing, d 10.0 counts, d 9.9 does not, nor does a level below its background
 d-10-9 : correctedSide 509 400 ≡ Corrected (record { 0 = 504 })
-unfolding correctedSide
+unfolding correctedSide correctionOf corrections
 d-10-9 = refl
 
 d-15-0 : correctedSide 550 400 ≡ Corrected (record { 0 = 550 })
-unfolding correctedSide
+unfolding correctedSide correctionOf corrections
 d-15-0 = refl
 
 d-16-0 : correctedSide 560 400 ≡ Corrected (record { 0 = 560 })
-unfolding correctedSide
+unfolding correctedSide correctionOf corrections
 d-16-0 = refl
 
 d-10-0 : correctedSide 500 400 ≡ Corrected (record { 0 = 495 })
-unfolding correctedSide
+unfolding correctedSide correctionOf corrections
 d-10-0 = refl
 
 d-9-9 : correctedSide 499 400 ≡ NotValid
-unfolding correctedSide
+unfolding correctedSide correctionOf corrections
 d-9-9 = refl
 
 below-background : correctedSide 300 400 ≡ NotValid
-unfolding correctedSide
+unfolding correctedSide correctionOf corrections
 below-background = refl
 
 -- ---- readings
@@ -64,10 +65,10 @@ refused :
     && broken (readingOf 1 0xc290_8000)
     && broken (readingOf 1 0x419f_ffff)
     && broken (readingOf 2 0x430c_0001))
-unfolding broken readingOf ofBits
+unfolding broken readingOf ofBits inRange
 refused = tt
 
 -- good: both ends of the range, and four zero bytes under kind 0
 taken : T (not (broken (readingOf 1 0x41a0_0000)) && not (broken (readingOf 2 0x430c_0000)) && not (broken (readingOf 0 0)))
-unfolding broken readingOf ofBits
+unfolding broken readingOf ofBits inRange
 taken = tt

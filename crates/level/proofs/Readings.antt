@@ -4,8 +4,11 @@ use mathlib.Core.Bool.{Bool, true, false, cond}
 use Prim.Native.Nat.{ℕ, _≤_, _<_}
 use native.Mathlib.Omega.{arith}
 use lib.Ieee.{Float, binary32, ofBits}
-use borrow.Author.Tests.{eq-eqb, ne-eqb}
+use lib.Dec.{eqb}
+use borrow.Author.Tests.{eq-eqb, ne-eqb, eqb-true}
+use Rattle.units.proofs.Tests.{chosen}
 use Rattle.level.specs.declared.Reading.the-variants.{Level, Overload, Absent}
+use Rattle.level.specs.declared.Found.{Found}
 use Rattle.level.specs.declared.Found.the-variants.{Good, Broken}
 use Rattle.level.specs.declared.Pattern.the-variants.{InRange, Outside}
 use Rattle.level.specs.Level.{inRange}
@@ -62,3 +65,22 @@ module _ (kind pattern : ℕ) where
   unfolding readingOf
   level-broken k e =
       simp (ne-eqb kind 0 k, outside (ofBits binary32 pattern) e, either)
+
+-- ---- what a reading can be, with what holds of its kind and its pattern
+
+pub data View (kind pattern : ℕ) : Found → Type 0 where
+  is-absent : kind ≡ 0 → pattern ≡ 0 → View kind pattern (Good Absent)
+  is-level : kind ≡ 1 → inRange (ofBits binary32 pattern) ≡ true → View kind pattern (Good (Level (ofBits binary32 pattern)))
+  is-overload : kind ≡ 2 → inRange (ofBits binary32 pattern) ≡ true → View kind pattern (Good (Overload (ofBits binary32 pattern)))
+  is-broken : View kind pattern Broken
+
+pub view : (kind pattern : ℕ) → View kind pattern (readingOf kind pattern)
+unfolding readingOf
+view kind pattern =
+    chosen (View kind pattern) (eqb kind 0) _ _
+    (λ k. chosen (View kind pattern) (eqb pattern 0) _ _ (λ z. is-absent (eqb-true kind 0 k) (eqb-true pattern 0 z)) (λ z. is-broken))
+    (λ n. chosen (View kind pattern) (eqb kind 1) _ _
+    (λ k. chosen (View kind pattern) (inRange (ofBits binary32 pattern)) _ _ (λ i. is-level (eqb-true kind 1 k) i) (λ i. is-broken))
+    (λ m. chosen (View kind pattern) (eqb kind 2) _ _
+    (λ k. chosen (View kind pattern) (inRange (ofBits binary32 pattern)) _ _ (λ i. is-overload (eqb-true kind 2 k) i) (λ i. is-broken))
+    (λ l. is-broken)))

@@ -17,19 +17,16 @@ corrections = 5 ∷ 4 ∷ 3 ∷ 2 ∷ 1 ∷ 0 ∷ []
 -- Step 2: the correction for a difference of d tenths, d at least 100. The fraction of d is dropped first; above 15 dB, past the end of
 -- the table, nothing is taken off.
 unfoldable pub correctionOf : ℕ → ℕ
-unfolding corrections
 correctionOf d = getD corrections (d / 10 - 10) 0
 
 -- Steps 2 and 3 on one side: d is the level less its background (0 for a level below it). A side counts from d 10.0 on.
 unfoldable pub correctedSide : ℕ → ℕ → Side
-unfolding correctionOf
 correctedSide level background =
     let d = level - background in
     cond (leb 100 d) (Corrected (record { 0 = level - correctionOf d })) NotValid
 
 -- Step 3 on one side: only a level counts, not an overload and not an absent reading. A level out of range, which no sheet has, does not.
 unfoldable pub sideOf : Reading → ℕ → Side
-unfolding inRange tenthsOf correctedSide
 sideOf (Level x) background = cond (inRange x) (correctedSide (tenthsOf x) background) NotValid
 sideOf (Overload x) background = NotValid
 sideOf Absent background = NotValid

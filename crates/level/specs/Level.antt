@@ -14,7 +14,6 @@ inRange (fin s m e) = not s && leb (20 * down e) (m * up e) && leb (m * up e) (1
 
 -- "From levels to windows", step 1: the exact value of a level rounded to a tenth, as a number of tenths. (What is no level has none: 0.)
 unfoldable pub tenthsOf : Float → ℕ
-unfolding rounded
 tenthsOf nan = 0
 tenthsOf (inf s) = 0
 tenthsOf (fin s m e) = rounded (10 * (m * up e)) (down e)

@@ -14,7 +14,6 @@ use Rattle.level.specs.Level.{inRange}
 -- Kind 0 is absent, and its four bytes are zero. Kinds 1 and 2 are a level and an overload with the last level shown, each a level in
 -- range. There is no other kind.
 unfoldable pub readingOf : ℕ → ℕ → Found
-unfolding inRange
 readingOf kind pattern =
     let x = ofBits binary32 pattern in
     cond (eqb kind 0) (cond (eqb pattern 0) (Good Absent) Broken)
@@ -23,5 +22,4 @@ readingOf kind pattern =
 
 -- a float, if it is a level in range
 unfoldable pub levelOf : Float → Pattern
-unfolding inRange
 levelOf x = cond (inRange x) (InRange x) Outside

@@ -7,7 +7,6 @@ use Rattle.units.specs.Lowest.{lowest}
 
 -- PMR = 1000 × P / m, P in kW and m in kg, rounded to a tenth: in tenths, from P in tenths of kW
 unfoldable pub pmrOf : ℕ → ℕ → ℕ
-unfolding rounded
 pmrOf power mass = rounded (1000 * power) mass
 
 -- 10^(2N + from) ≤ q^e < 10^(2N + to): in whole numbers, that N is a multiple of a logarithm, rounded. For a_urban,
@@ -17,10 +16,8 @@ between e from to q N = leb (10 ^ (2 * N + from)) (q ^ e) && ltb (q ^ e) (10 ^ (
 
 -- a_urban = 63 log10(PMR) - 9, rounded: the N with 10^(2N+143) ≤ q^126 < 10^(2N+145), looked for below 4.00
 unfoldable pub aUrban : ℕ → ℕ
-unfolding between lowest
 aUrban q = lowest (between 126 143 145 q) 400 0
 
 -- a_ref = 159 log10(PMR) - 141, rounded: the N with 10^(2N+599) ≤ q^318 < 10^(2N+601); below PMR 25.0 it is a_urban
 unfoldable pub aRef : ℕ → ℕ
-unfolding between lowest aUrban
 aRef q = cond (ltb q 250) (aUrban q) (lowest (between 318 599 601 q) 400 0)

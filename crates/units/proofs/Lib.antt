@@ -1,3 +1,4 @@
 pub mod Rounding
 pub mod Table
 pub mod Lowest
+pub mod Tests

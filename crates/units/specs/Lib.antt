@@ -1,3 +1,4 @@
 pub mod Rounding
 pub mod Bytes
 pub mod Lowest
+pub mod Tests
