@@ -1,16 +1,15 @@
 -- The table of corrections falls, so a higher level never has a lower corrected level. Assumes nothing.
 use mathlib.Core.Path.{_≡_, refl}
 use mathlib.Core.Bool.{Bool, true, false}
-use mathlib.Core.List.{List}
-use Prim.Native.Nat.{ℕ, suc, _+_, _-_, _/_, _≤_, _<_}
+use Prim.Native.Nat.{ℕ, suc, _-_, _/_, _≤_, _<_}
 use native.Mathlib.Nat.{le-refl, le-trans, le-of-lt}
 use native.Mathlib.Decide.{le-ind}
 use native.Mathlib.Omega.{arith}
-use lib.Dec.{T, ltb, ltb→lt}
-use lib.ListN.{length, getD, take, List·getD-eq-default}
+use lib.Dec.{ltb, ltb→lt}
+use lib.ListN.{getD, take, List·getD-eq-default}
 use lib.Seq.{getD-take}
 use borrow.Author.Tests.{ltb-true, ltb-false}
-use Rattle.units.proofs.Table.{every, at}
+use Rattle.units.proofs.Table.{at}
 use Rattle.level.specs.Correction.{corrections, correctionOf}
 
 -- an entry stands above the next one

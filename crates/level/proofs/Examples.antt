@@ -6,7 +6,6 @@ use Prim.Native.Nat.{ℕ}
 use lib.Dec.{T, eqb}
 use lib.Ieee.{binary32, ofBits}
 use Rattle.units.specs.Rounding.{rounded}
-use Rattle.level.specs.declared.Reading.the-variants.{Level, Overload, Absent}
 use Rattle.level.specs.declared.Found.{Found}
 use Rattle.level.specs.declared.Found.the-variants.{Good, Broken}
 use Rattle.level.specs.declared.Side.the-variants.{Corrected, NotValid}

@@ -1,12 +1,14 @@
 -- What `readingOf` is, kind by kind. Assumes nothing.
-use mathlib.Core.Path.{_≡_, refl, sym}
-use mathlib.Core.Bool.{Bool, true, false, cond}
-use Prim.Native.Nat.{ℕ, _≤_, _<_}
+use mathlib.Core.Path.{_≡_, refl, _∙_}
+use mathlib.Core.Bool.{Bool, true, false, cond, false≢true}
+use Prim.Native.Nat.{ℕ, _<_}
 use native.Mathlib.Omega.{arith}
-use lib.Ieee.{Float, binary32, ofBits}
+use lib.Ieee.{Float, nan, inf, fin, binary32, ofBits, nanBits, isNan}
+use lib.Ieee.Bits.{nanBits-is}
 use lib.Dec.{eqb}
 use borrow.Author.Tests.{eq-eqb, ne-eqb, eqb-true}
 use Rattle.units.proofs.Tests.{chosen}
+use Rattle.level.specs.declared.Reading.{Reading}
 use Rattle.level.specs.declared.Reading.the-variants.{Level, Overload, Absent}
 use Rattle.level.specs.declared.Found.{Found}
 use Rattle.level.specs.declared.Found.the-variants.{Good, Broken}
@@ -84,3 +86,29 @@ view kind pattern =
     (λ m. chosen (View kind pattern) (eqb kind 2) _ _
     (λ k. chosen (View kind pattern) (inRange (ofBits binary32 pattern)) _ _ (λ i. is-overload (eqb-true kind 2 k) i) (λ i. is-broken))
     (λ l. is-broken)))
+
+-- the pattern of a good reading is not a NaN's
+pub no-nan : (kind pattern : ℕ) (r : Reading) → readingOf kind pattern ≡ Good r → nanBits binary32 pattern ≡ false
+unfolding inRange isNan nanBits
+no-nan kind pattern r e = by (readingOf kind pattern) (view kind pattern) e
+  where
+    number : (x : Float) → inRange x ≡ true → isNan x ≡ false
+    number nan i = absurd (false≢true i)
+    number (inf s) i = refl
+    number (fin s m d) i = refl
+
+    by : (f : Found) → View kind pattern f → f ≡ Good r → nanBits binary32 pattern ≡ false
+    by (Good Absent) (is-absent k z) s = rw z
+    by (Good (Level _)) (is-level k i) s = nanBits-is binary32 pattern ∙ number (ofBits binary32 pattern) i
+    by (Good (Overload _)) (is-overload k i) s = nanBits-is binary32 pattern ∙ number (ofBits binary32 pattern) i
+    by Broken is-broken s = absurd (let z : _≡_ {A = ℕ} 0 1 = cc in omega arith)
+
+-- and a reading that is not absent has a level in range
+pub in-range : (kind pattern : ℕ) (r : Reading) → readingOf kind pattern ≡ Good r → (kind ≡ 0 → ⊥) → inRange (ofBits binary32 pattern) ≡ true
+in-range kind pattern r e n = by (readingOf kind pattern) (view kind pattern) e
+  where
+    by : (f : Found) → View kind pattern f → f ≡ Good r → inRange (ofBits binary32 pattern) ≡ true
+    by (Good Absent) (is-absent k z) s = absurd (n k)
+    by (Good (Level _)) (is-level k i) s = i
+    by (Good (Overload _)) (is-overload k i) s = i
+    by Broken is-broken s = absurd (let z : _≡_ {A = ℕ} 0 1 = cc in omega arith)

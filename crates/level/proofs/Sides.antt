@@ -1,16 +1,15 @@
 -- Laws of a side's answer, for the layers above: which sides count, how high they can be, and that they rise with the float.
 -- Assumes nothing.
-use mathlib.Core.Path.{_≡_, refl, sym, ap, _∙_}
+use mathlib.Core.Path.{_≡_, refl, sym, ap}
 use mathlib.Core.Bool.{Bool, true, false, cond}
 use Prim.Native.Nat.{ℕ, _+_, _-_, _≤_, _<_}
 use native.Mathlib.Omega.{arith}
 use lib.Dec.{T, leb}
 use lib.Ieee.{Float, lt}
-use borrow.Author.Tests.{leb-true, leb-false, le-leb, lt-leb}
+use borrow.Author.Tests.{leb-true, le-leb, lt-leb}
 use Rattle.units.specs.declared.Tenths.{Tenths}
 use Rattle.level.specs.declared.Reading.{Reading}
 use Rattle.level.specs.declared.Reading.the-variants.{Level, Overload, Absent}
-use Rattle.level.specs.declared.Side.{Side}
 use Rattle.level.specs.declared.Side.the-variants.{Corrected, NotValid}
 use Rattle.level.specs.Level.{inRange, tenthsOf}
 use Rattle.level.specs.Correction.{correctionOf, correctedSide, sideOf}

@@ -1,6 +1,6 @@
 -- a_urban and a_ref are each THE number with its inequality, for every PMR from 5.0 to 600.0; and where they lie.
 -- Assumes nothing.
-use mathlib.Core.Path.{_≡_, refl, sym}
+use mathlib.Core.Path.{_≡_, refl}
 use mathlib.Core.Bool.{Bool, true, false}
 use Prim.Native.Nat.{ℕ, zero, suc, _+_, _*_, _^_, _≤_, _<_}
 use native.Mathlib.Nat.{add-zero, le-refl, lt-irrefl, le-trans, lt-of-le-of-lt, lt-of-lt-of-le, pow-le-pow-left}

@@ -2,8 +2,9 @@
 -- Assumes nothing.
 use mathlib.Core.Path.{_≡_, refl}
 use mathlib.Core.Bool.{Bool, true, false}
-use Prim.Native.Nat.{ℕ, zero, suc, _+_, _≤_, _<_}
+use Prim.Native.Nat.{ℕ, zero, suc, _+_, _-_, _≤_, _<_}
 use native.Mathlib.Nat.{le-antisymm, lt-of-le-of-lt}
+use native.Mathlib.Numerals.{add-one}
 use native.Mathlib.Omega.{arith}
 use lib.Dec.{T, leb}
 use borrow.Author.Tests.{leb-true, leb-false}
@@ -19,6 +20,20 @@ module _ (test : ℕ → Bool) where
   pub lowest-next : (count n : ℕ) → test n ≡ false → lowest test (suc count) n ≡ lowest test count (suc n)
   unfolding lowest
   lowest-next count n e = rw (e, lowest)
+
+  -- the same where the numbers end before `end`, as a loop goes through them
+
+  pub lowest-stop : (end i : ℕ) → i < end → test i ≡ true → lowest test (end - i) i ≡ i
+  lowest-stop end i h e = let more : end - i ≡ suc (end - (i + 1)) = omega arith in rw more (lowest-here (end - (i + 1)) i e)
+
+  pub lowest-step : (end i : ℕ) → i < end → test i ≡ false → lowest test (end - i) i ≡ lowest test (end - (i + 1)) (i + 1)
+  lowest-step end i h e =
+      let more : end - i ≡ suc (end - (i + 1)) = omega arith in
+      rw (more, add-one i) (lowest-next (end - suc i) i e)
+
+  pub lowest-end : (i : ℕ) → lowest test (i - i) i ≡ i
+  unfolding lowest
+  lowest-end i = let none : i - i ≡ 0 = omega arith in rw none
 
   -- ---- what it finds: no number before it passes, and it passes itself unless it is past the last
 

@@ -2,7 +2,7 @@
 -- Assumes nothing.
 use mathlib.Core.Path.{_≡_, sym}
 use Prim.Native.Nat.{ℕ, _+_, _-_, _*_, _/_, _%_, _≤_, _<_}
-use native.Mathlib.Nat.{mod-lt, div-add-mod, div-le-self, le-of-eq, le-antisymm, lt-of-le-of-lt, lt-of-mul-lt-mul-left}
+use native.Mathlib.Nat.{mod-lt, div-add-mod, le-of-eq, le-antisymm, lt-of-le-of-lt, lt-of-mul-lt-mul-left}
 use native.Mathlib.Omega.{arith}
 use lib.Ieee.Nearest.{div-mono}
 use Rattle.units.specs.Rounding.{rounded}

@@ -1,6 +1,6 @@
 -- Laws of tests: where every test passes, each does; and a choice by a test. Assumes nothing.
-use mathlib.Core.Path.{_≡_, refl}
-use mathlib.Core.Bool.{Bool, true, false, cond}
+use mathlib.Core.Path.{_≡_, refl, sym, ap, ap₂, _∙_}
+use mathlib.Core.Bool.{Bool, true, false, cond, _&&_, and-true, and-assoc}
 use mathlib.Core.List.{List, [], _∷_}
 use Prim.Native.Nat.{ℕ, zero, suc}
 use lib.Dec.{T}
@@ -17,3 +17,26 @@ each (b ∷ tests) t (suc k) = each tests (and-r b (allOf tests) t) k
 pub chosen : {A : Type 0} (P : A → Type 0) (b : Bool) (yes′ no′ : A) → (b ≡ true → P yes′) → (b ≡ false → P no′) → P (cond b yes′ no′)
 chosen P true yes′ no′ p q = p refl
 chosen P false yes′ no′ p q = q refl
+
+-- ---- tests joined one after the other, as code joins them
+
+abbrev pub chain : Bool → List Bool → Bool
+chain a [] = a
+chain a (b ∷ bs) = chain (a && b) bs
+
+chain-is : (a : Bool) (bs : List Bool) → chain a bs ≡ (a && allOf bs)
+chain-is a [] = sym (and-true a)
+chain-is a (b ∷ bs) = chain-is (a && b) bs ∙ and-assoc a b (allOf bs)
+
+-- two lists of tests with the same outcomes
+pub data Alike : List Bool → List Bool → Type 0 where
+  done : Alike [] []
+  also : {a b : Bool} {xs ys : List Bool} → a ≡ b → Alike xs ys → Alike (a ∷ xs) (b ∷ ys)
+
+alike : {xs ys : List Bool} → Alike xs ys → allOf xs ≡ allOf ys
+alike done = refl
+alike (also e r) = ap₂ _&&_ e (alike r)
+
+-- Code that has passed the first test of a list and joins the others decides as the list does.
+pub chained : {l a b : Bool} {xs ys : List Bool} → l ≡ true → a ≡ b → Alike xs ys → chain a xs ≡ allOf (l ∷ (b ∷ ys))
+chained {l} {a} {b} {xs} {ys} first e r = chain-is a xs ∙ ap₂ _&&_ e (alike r) ∙ sym (ap (λ (t : Bool). t && (b && allOf ys)) first)

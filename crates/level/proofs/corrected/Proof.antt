@@ -4,7 +4,6 @@ use mathlib.Core.Path.{sym, ap, _∙_}
 use native.Mathlib.Omega.{arith}
 use Prim.Native.Nat.{ℕ, _-_}
 use Rattle.level.specs.declared.Side.the-variants.{Corrected}
-use Rattle.level.specs.Correction.{correctionOf}
 use Rattle.level.proofs.Corrections.{correction-small}
 use Rattle.level.proofs.Sides.{counts, too-near}
 use Rattle.level.proofs.corrected.Statement.{statement}

@@ -1,13 +1,7 @@
 -- `level::side_of` meets its contract, arm by arm. Assumes nothing.
 use borrow.Author.Needs.{needs}
-use mathlib.Core.Path.{sym, ap, _∙_}
-use lib.Dec.{T}
-use mathlib.Core.Path.{_≡_, sym, ap, _∙_}
-use Prim.Native.Nat.{ℕ}
+use mathlib.Core.Path.{sym, _∙_}
 use Rattle.level.specs.Correction.{sideOf}
-use Rattle.level.specs.Level.{inRange, tenthsOf}
-use Rattle.level.specs.Correction.{correctedSide}
-use Rattle.level.specs.declared.Reading.{Reading}
 use Rattle.level.proofs.side_of.Statement.{statement}
 use Rattle.level.proofs.side_of.Tie as tie
 

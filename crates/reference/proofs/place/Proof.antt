@@ -1,12 +1,9 @@
 -- `reference::place` meets its contract. The loop keeps the place of q from `low` to `high`. Assumes nothing.
 use mathlib.Core.List.{List}
-use Prim.Native.Nat.{ℕ, _-_, _≤_, _<_}
+use Prim.Native.Nat.{ℕ, _-_, _≤_, _<_, _+_, _/_}
 use native.Mathlib.Omega.{arith}
 use lib.ListN.{length, getD}
-use mathlib.Core.Path.{_≡_, subst}
-use native.Mathlib.Nat.{le-antisymm}
-use Prim.Native.Nat.{_+_, _/_}
-use Rattle.reference.specs.Place.{Placed}
+use mathlib.Core.Path.{_≡_}
 use Rattle.reference.proofs.place.Statement.{statement}
 use Rattle.reference.proofs.place.Tie as tie
 

@@ -1,0 +1,133 @@
+-- Laws of the examination. Assumes nothing.
+use mathlib.Core.Path.{_≡_, refl, sym, ap, _∙_}
+use mathlib.Core.Bool.{Bool, true, false, not, _||_, true≢false}
+use mathlib.Core.List.{List}
+use Prim.Native.Nat.{ℕ, _+_, _%_, _≤_, _<_}
+use native.Mathlib.Omega.{arith}
+use lib.Dec.{eqb, ltb}
+use lib.ListN.{length}
+use borrow.Author.Tests.{eqb-true, eqb-false, ltb-false, not-false, eq-eqb, ne-eqb, lt-ltb, le-ltb}
+use Rattle.units.proofs.Lowest.{found}
+use Rattle.units.proofs.Tests.{chosen}
+use Rattle.sheet.specs.declared.Vehicle.{Vehicle}
+use Rattle.sheet.specs.declared.Closing.{Closing}
+use Rattle.sheet.specs.declared.Examination.{Examination}
+use Rattle.sheet.specs.declared.Examination.the-variants.{Whole, WrongSize, NoVehicle, NoClosing, BrokenRecord}
+use Rattle.sheet.specs.Records.{records, recordAt}
+use Rattle.sheet.specs.Layout.{byte, word, vehicleGood, vehicleIn, runGood, closingGood, closingIn}
+use Rattle.sheet.specs.Examining.{lastOf, wrongSize, noVehicle, noClosing, goodAt, lowestBroken, examined}
+
+-- ---- the size
+
+or-no : (a b : Bool) → (a || b) ≡ false → (a ≡ false) × (b ≡ false)
+or-no true b e = absurd (true≢false e)
+or-no false b e = (refl, e)
+
+-- a sheet of the right size has whole records, at least one and at most 1,024
+pub record Sized (s : List ℕ) : Type 0 where
+  pub some : 0 < records s
+  pub few : records s ≤ 1024
+  pub whole : length s % 32 ≡ 0
+
+pub sized : (s : List ℕ) → wrongSize s ≡ false → Sized s
+unfolding wrongSize records
+sized s e =
+    let n = length s in
+    let p = or-no (eqb n 0 || ltb 32768 n) (not (eqb (n % 32) 0)) e in
+    let q = or-no (eqb n 0) (ltb 32768 n) (p .0) in
+    let nonempty = eqb-false n 0 (q .0) in
+    let small = ltb-false 32768 n (q .1) in
+    let whole = eqb-true (n % 32) 0 (not-false (eqb (n % 32) 0) (p .1)) in
+    record { some = omega arith; few = omega arith; whole = whole }
+
+-- ---- the layout of a record by its place
+
+module _ (s : List ℕ) (i : ℕ) where
+  pub first-place : i ≡ 0 → goodAt s i ≡ vehicleGood (recordAt s i)
+  unfolding goodAt
+  first-place e = simp (eq-eqb i 0 e)
+
+  pub last-place : (i ≡ 0 → ⊥) → i ≡ lastOf s → goodAt s i ≡ closingGood (recordAt s i)
+  unfolding goodAt
+  last-place n e = simp (ne-eqb i 0 n, eq-eqb i (lastOf s) e)
+
+  pub middle-place : (i ≡ 0 → ⊥) → (i ≡ lastOf s → ⊥) → goodAt s i ≡ runGood (recordAt s i)
+  unfolding goodAt
+  middle-place n m = simp (ne-eqb i 0 n, ne-eqb i (lastOf s) m)
+
+-- ---- the rows, each with no earlier cause
+
+module _ (s : List ℕ) where
+  pub row-2 : wrongSize s ≡ true → examined s ≡ WrongSize
+  unfolding examined
+  row-2 a = simp a
+
+  pub row-3 : wrongSize s ≡ false → noVehicle s ≡ true → examined s ≡ NoVehicle
+  unfolding examined
+  row-3 a b = simp (a, b)
+
+  pub row-4 : wrongSize s ≡ false → noVehicle s ≡ false → noClosing s ≡ true → examined s ≡ NoClosing (lastOf s)
+  unfolding examined
+  row-4 a b d = simp (a, b, d)
+
+  pub row-5 : wrongSize s ≡ false → noVehicle s ≡ false → noClosing s ≡ false → lowestBroken s < records s → examined s ≡ BrokenRecord (lowestBroken s)
+  unfolding examined
+  row-5 a b d e = simp (a, b, d, lt-ltb (lowestBroken s) (records s) e)
+
+  pub no-row : wrongSize s ≡ false → noVehicle s ≡ false → noClosing s ≡ false → records s ≤ lowestBroken s → examined s ≡ Whole (vehicleIn (recordAt s 0)) (closingIn (recordAt s (lastOf s)))
+  unfolding examined
+  no-row a b d e = simp (a, b, d, le-ltb (lowestBroken s) (records s) e)
+
+-- ---- a whole sheet
+
+pub record WholeSheet (s : List ℕ) (v : Vehicle) (z : Closing) : Type 0 where
+  pub size : Sized s
+  pub two : 2 ≤ records s
+  pub vehicle : vehicleGood (recordAt s 0) ≡ true
+  pub vehicle-is : v ≡ vehicleIn (recordAt s 0)
+  pub closing : closingGood (recordAt s (lastOf s)) ≡ true
+  pub closing-is : z ≡ closingIn (recordAt s (lastOf s))
+  pub counted : z .runs + 2 ≡ records s
+  pub runs : (i : ℕ) → 0 < i → i < lastOf s → runGood (recordAt s i) ≡ true
+
+module _ (s : List ℕ) (v : Vehicle) (z : Closing) where
+  all-good : records s ≤ lowestBroken s → (i : ℕ) → i < records s → goodAt s i ≡ true
+  unfolding lowestBroken
+  all-good h i l = not-false (goodAt s i) (found (λ k. not (goodAt s k)) (records s) 0 .before i (omega arith) (omega arith))
+
+  closed : noClosing s ≡ false → word (recordAt s (lastOf s)) 2 + 2 ≡ records s
+  unfolding noClosing
+  closed e =
+      let r = recordAt s (lastOf s) in
+      let second = or-no (not (eqb (byte r 0) 9)) (not (eqb (word r 2 + 2) (records s))) e .1 in
+      eqb-true (word r 2 + 2) (records s) (not-false (eqb (word r 2 + 2) (records s)) second)
+
+  built : wrongSize s ≡ false → noClosing s ≡ false → records s ≤ lowestBroken s → Whole (vehicleIn (recordAt s 0)) (closingIn (recordAt s (lastOf s))) ≡ Whole v z → WholeSheet s v z
+  unfolding closingIn
+  built a d e k =
+      let size = sized s a in
+      let counted = closed d in
+      let good = all-good e in
+      let same : z ≡ closingIn (recordAt s (lastOf s)) = cc in
+      record {
+        size = size;
+        two = omega arith;
+        vehicle = sym (first-place s 0 refl) ∙ good 0 (size .some);
+        vehicle-is = cc;
+        closing = sym (last-place s (lastOf s) (omega arith) refl) ∙ good (lastOf s) (omega arith);
+        closing-is = same;
+        counted = ap (λ (x : Closing). x .runs + 2) same ∙ counted;
+        runs = λ i l m. sym (middle-place s i (omega arith) (omega arith)) ∙ good i (omega arith);
+      }
+
+  pub whole : examined s ≡ Whole v z → WholeSheet s v z
+  unfolding examined
+  whole =
+      chosen Then (wrongSize s) _ _ (λ a k. absurd (let y : _≡_ {A = ℕ} 0 1 = cc in omega arith))
+      (λ a. chosen Then (noVehicle s) _ _ (λ b k. absurd (let y : _≡_ {A = ℕ} 0 1 = cc in omega arith))
+      (λ b. chosen Then (noClosing s) _ _ (λ d k. absurd (let y : _≡_ {A = ℕ} 0 1 = cc in omega arith))
+      (λ d. chosen Then (ltb (lowestBroken s) (records s)) _ _ (λ e k. absurd (let y : _≡_ {A = ℕ} 0 1 = cc in omega arith))
+      (λ e. built a d (ltb-false (lowestBroken s) (records s) e)))))
+    where
+      Then : Examination → Type 0
+      Then e = e ≡ Whole v z → WholeSheet s v z

@@ -1,0 +1,4 @@
+pub mod Shown
+pub mod Layouts
+pub mod Examinations
+mod Examples

@@ -1,0 +1,75 @@
+-- `sheet::lowest_broken` meets its contract. The records passed are good, so what is left decides. Assumes nothing.
+use mathlib.Core.Path.{_≡_, sym, ap, _∙_}
+use native.Mathlib.Omega.{arith}
+use mathlib.Core.Bool.{Bool, not}
+use mathlib.Core.List.{List}
+use Prim.Native.Nat.{ℕ, _-_, _≤_}
+use Rattle.units.specs.Lowest.{lowest}
+use Rattle.units.proofs.Lowest.{lowest-stop, lowest-step, lowest-end}
+use Rattle.sheet.specs.Examining.{goodAt, lowestBroken}
+use Rattle.sheet.specs.Records.{records}
+use Rattle.sheet.proofs.lowest_broken.Statement.{statement}
+use Rattle.sheet.proofs.lowest_broken.Tie as tie
+
+-- record i breaks the layout
+abbrev broken : List ℕ → ℕ → Bool
+broken s i = not (goodAt s i)
+
+abbrev Inv-loop : tie.InvT-loop
+Inv-loop sheet count last i₀ i = (i ≤ count) × (lowestBroken sheet ≡ lowest (broken sheet) (count - i) i)
+
+abbrev μ-loop : tie.MeasureT-loop
+μ-loop sheet count last i₀ i = count - i
+
+sub-last : tie.Need-sub-last Inv-loop μ-loop
+sub-last c = omega arith
+
+loop-holds : tie.Need-loop-holds Inv-loop μ-loop
+unfolding lowestBroken
+loop-holds c =
+    let s = c .before .args .sheet .now in
+    let all : records s ≡ c .before .args .count - 0 = omega arith in
+    (omega arith, ap (λ (n : ℕ). lowest (broken s) n 0) all)
+
+good-at-requires : tie.Need-good-at-requires Inv-loop μ-loop
+good-at-requires c κs = ap (λ (n : ℕ). n - 1) (c .before .before .before .pre .1)
+
+add-i : tie.Need-add-i Inv-loop μ-loop
+add-i c = omega arith
+
+loop-less : tie.Need-loop-less Inv-loop μ-loop
+loop-less c = omega arith
+
+loop-again : tie.Need-loop-again Inv-loop μ-loop
+loop-again c =
+    let a = c .before .before .before .before .before .args in
+    let l = c .before .before .before .loop in
+    (omega arith, l .inv .1 ∙ lowest-step (broken (a .sheet .now)) (a .count) (l .i) (c .before .before .loop-test .taken) (ap not (sym (c .before .good-at .ensures) ∙ c .if1 .taken)))
+
+returns : tie.Need-returns Inv-loop μ-loop
+returns c =
+    let a = c .before .before .before .before .before .args in
+    let l = c .before .before .before .loop in
+    sym (l .inv .1 ∙ lowest-stop (broken (a .sheet .now)) (a .count) (l .i) (c .before .before .loop-test .taken) (ap not (sym (c .before .good-at .ensures) ∙ c .if1 .left)))
+
+returns-2 : tie.Need-returns-2 Inv-loop μ-loop
+returns-2 c =
+    let s = c .before .before .before .args .sheet .now in
+    let l = c .before .loop in
+    let met : c .before .before .before .args .count ≡ l .i = omega arith in
+    sym (l .inv .1 ∙ ap (λ (n : ℕ). lowest (broken s) (n - l .i) (l .i)) met ∙ lowest-end (broken s) (l .i))
+
+pub lowest-broken-spec : {M : Type 1} → statement M
+lowest-broken-spec =
+    tie.close
+    (tie.spec
+    Inv-loop
+    μ-loop
+    sub-last
+    loop-holds
+    good-at-requires
+    add-i
+    loop-less
+    loop-again
+    returns
+    returns-2)

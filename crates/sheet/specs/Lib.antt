@@ -1,0 +1,3 @@
+pub mod Records
+pub mod Layout
+pub mod Examining
