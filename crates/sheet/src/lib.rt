@@ -269,7 +269,8 @@ fn run_good(r: &[u8]) -> bool
         & blank(r, 22, 32)
 }
 
-fn run_in(r: &[u8]) -> Run
+// The run of a record that is known to be good.
+pub fn run_in(r: &[u8]) -> Run
     requires { ⌜ length (now r) ≡ 32 ⌝ }
     requires { ⌜ nanBits binary32 (number (now r) 8 4) ≡ false ⌝ }
     requires { ⌜ nanBits binary32 (number (now r) 12 4) ≡ false ⌝ }

@@ -1,0 +1,54 @@
+-- The driven examples of document 01 on windows, and the traps of the spreadsheet, computed from the definitions. Assumes nothing.
+use mathlib.Core.Bool.{Bool, false, _&&_}
+use mathlib.Core.List.{List, [], _∷_, map}
+use Prim.Native.Nat.{ℕ}
+use lib.Dec.{T, eqb}
+use Rattle.units.specs.Rounding.{rounded}
+use Rattle.units.specs.Lowest.{lowest}
+use Rattle.units.specs.Tests.{allOf}
+use Rattle.window.specs.declared.ValidRun.{ValidRun}
+use Rattle.window.specs.declared.Window.{Window}
+use Rattle.window.specs.declared.Window.the-variants.{Runs, Nothing}
+use Rattle.window.specs.Windows.{spanned, fitting, nobody, fourAt, firstPlace, firstWindow, largerSum, levelOf}
+
+run : ℕ → ℕ → ℕ → ValidRun
+run n l r = record { left = record { 0 = l }; right = record { 0 = r }; start = 0; end = 0; engine = 0; number = n }
+
+-- runs 1, 2, .. with the same level on both sides
+data Example : Type 0 where
+  -- the first window starts at this run, and the condition's level is this
+  starts : List ValidRun → ℕ → ℕ → Example
+  none : List ValidRun → Example
+
+isAt : ℕ → ℕ → Window → Bool
+isAt n level (Runs f) = eqb (f .a .number) n && eqb (levelOf f) level
+isAt n level Nothing = false
+
+isNone : Window → Bool
+isNone (Runs f) = false
+isNone Nothing = eqb 0 0
+
+holds : Example → Bool
+holds (starts rest n level) = isAt n level (firstWindow rest)
+holds (none rest) = isNone (firstWindow rest)
+
+examples : List Example
+examples =
+    -- 70.0, 72.1, 71.0, 71.0, 71.0: runs 2 to 5, whose mean is 71.275
+    starts (run 1 700 700 ∷ run 2 721 721 ∷ run 3 710 710 ∷ run 4 710 710 ∷ run 5 710 710 ∷ []) 2 713
+    -- 70.0 with 72.0 is within
+    ∷ starts (run 1 700 700 ∷ run 2 720 720 ∷ run 3 710 710 ∷ run 4 710 710 ∷ []) 1 710
+    -- each side by itself: the sums of the sides are alike, the sides are not
+    ∷ none (run 1 700 721 ∷ run 2 721 700 ∷ run 3 710 711 ∷ run 4 711 710 ∷ [])
+    -- a valid run outside the span parts its neighbours
+    ∷ none (run 1 700 700 ∷ run 2 700 700 ∷ run 3 740 740 ∷ run 4 700 700 ∷ run 5 700 700 ∷ [])
+    -- three runs are too few
+    ∷ none (run 1 700 700 ∷ run 2 700 700 ∷ run 3 700 700 ∷ [])
+    ∷ none []
+    -- the first of two windows; a side's mean of 70.05 goes up
+    ∷ starts (run 1 700 690 ∷ run 2 700 690 ∷ run 3 701 690 ∷ run 4 701 690 ∷ run 5 700 690 ∷ []) 1 701
+    ∷ []
+
+every-holds : T (allOf (map holds examples))
+unfolding run isAt isNone holds examples spanned fitting nobody fourAt firstPlace firstWindow largerSum levelOf lowest rounded
+every-holds = tt

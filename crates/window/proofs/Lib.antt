@@ -1,0 +1,4 @@
+pub mod Validities
+pub mod Searches
+pub mod Rests
+mod Examples

@@ -1,0 +1,86 @@
+-- The search for the first window, place by place. Assumes nothing.
+use mathlib.Core.Path.{_≡_, sym, ap, _∙_}
+use mathlib.Core.Bool.{true, false}
+use mathlib.Core.List.{List}
+use Prim.Native.Nat.{ℕ, _+_, _-_, _≤_, _<_}
+use native.Mathlib.Omega.{arith}
+use lib.ListN.{length, take}
+use lib.Seq.{getD-take}
+use lib.Dec.{ltb}
+use borrow.Author.Tests.{lt-ltb, le-ltb, ltb-true, ltb-false}
+use Rattle.units.specs.Lowest.{lowest}
+use Rattle.units.proofs.Lowest.{Lowest, found, lowest-stop, lowest-step}
+use Rattle.units.proofs.Tests.{chosen}
+use Rattle.window.specs.declared.ValidRun.{ValidRun}
+use Rattle.window.specs.declared.Four.{Four}
+use Rattle.window.specs.declared.Window.{Window}
+use Rattle.window.specs.declared.Window.the-variants.{Runs, Nothing}
+use Rattle.window.specs.Windows.{fitting, nobody, fourAt, firstPlace, firstWindow}
+
+module _ (rest : List ValidRun) where
+  -- nothing fits before place i: what is left decides
+  pub Reached : ℕ → Type 0
+  Reached i = firstPlace rest ≡ lowest (λ k. fitting (fourAt rest k)) (length rest - 3 - i) i
+
+  pub reached-start : Reached 0
+  unfolding Reached firstPlace
+  reached-start = let all : length rest - 3 ≡ length rest - 3 - 0 = omega arith in ap (λ (n : ℕ). lowest (λ k. fitting (fourAt rest k)) n 0) all
+
+  pub reached-next : (i : ℕ) → i + 3 < length rest → fitting (fourAt rest i) ≡ false → Reached i → Reached (i + 1)
+  unfolding Reached
+  reached-next i h e r = r ∙ lowest-step (λ k. fitting (fourAt rest k)) (length rest - 3) i (omega arith) e
+
+  pub found-here : (i : ℕ) → i + 3 < length rest → fitting (fourAt rest i) ≡ true → Reached i → firstWindow rest ≡ Runs (fourAt rest i)
+  unfolding Reached firstWindow
+  found-here i h e r =
+      let here : firstPlace rest ≡ i = r ∙ lowest-stop (λ k. fitting (fourAt rest k)) (length rest - 3) i (omega arith) e in
+      simp (here, lt-ltb i (length rest - 3) (omega arith))
+
+  pub found-nowhere : (i : ℕ) → length rest ≤ i + 3 → Reached i → firstWindow rest ≡ Nothing
+  unfolding Reached firstWindow lowest
+  found-nowhere i h r =
+      let none : length rest - 3 - i ≡ 0 = omega arith in
+      let here : firstPlace rest ≡ i = r ∙ ap (λ (n : ℕ). lowest (λ k. fitting (fourAt rest k)) n i) none in
+      simp (here, le-ltb i (length rest - 3) (omega arith))
+
+-- four neighbours among the first `count` runs
+pub four-taken : (runs : List ValidRun) (count i : ℕ) → i + 3 < count → fourAt (take count runs) i ≡ fourAt runs i
+unfolding fourAt
+four-taken runs count i h = simp (getD-take count runs i nobody (omega arith), getD-take count runs (i + 1) nobody (omega arith), getD-take count runs (i + 2) nobody (omega arith), getD-take count runs (i + 3) nobody h)
+
+-- ---- what is found, for a reader to check: a window, and no earlier one; or nothing, and then there is none
+
+pub record First (rest : List ValidRun) (f : Four) : Type 0 where
+  pub place : ℕ
+  pub inside : place + 3 < length rest
+  pub is : f ≡ fourAt rest place
+  pub fits : fitting f ≡ true
+  pub earliest : (i : ℕ) → i < place → fitting (fourAt rest i) ≡ false
+
+module _ (rest : List ValidRun) where
+  search : Lowest (λ i. fitting (fourAt rest i)) (length rest - 3) 0 (firstPlace rest)
+  unfolding firstPlace
+  search = found (λ i. fitting (fourAt rest i)) (length rest - 3) 0
+
+  pub first-is : (f : Four) → firstWindow rest ≡ Runs f → First rest f
+  unfolding firstWindow
+  first-is f =
+      chosen (λ (w : Window). w ≡ Runs f → First rest f) (ltb (firstPlace rest) (length rest - 3)) _ _
+      (λ t e.
+      let inside = ltb-true (firstPlace rest) (length rest - 3) t in
+      let same : fourAt rest (firstPlace rest) ≡ f = cc in
+      record {
+        place = firstPlace rest;
+        inside = omega arith;
+        is = sym same;
+        fits = sym (ap fitting same) ∙ search .passes (omega arith);
+        earliest = λ i h. search .before i (omega arith) h;
+      })
+      (λ t e. absurd (let z : _≡_ {A = ℕ} 0 1 = cc in omega arith))
+
+  pub none-is : firstWindow rest ≡ Nothing → (i : ℕ) → i + 3 < length rest → fitting (fourAt rest i) ≡ false
+  unfolding firstWindow
+  none-is =
+      chosen (λ (w : Window). w ≡ Nothing → (i : ℕ) → i + 3 < length rest → fitting (fourAt rest i) ≡ false) (ltb (firstPlace rest) (length rest - 3)) _ _
+      (λ t e. absurd (let z : _≡_ {A = ℕ} 0 1 = cc in omega arith))
+      (λ t e i h. search .before i (omega arith) (omega (arith, ltb-false (firstPlace rest) (length rest - 3) t)))
