@@ -1,6 +1,6 @@
 -- Laws of the examination. Assumes nothing.
 use mathlib.Core.Path.{_≡_, refl, sym, ap, _∙_}
-use mathlib.Core.Bool.{Bool, true, false, not, _||_, true≢false}
+use mathlib.Core.Bool.{true, false, not, _||_}
 use mathlib.Core.List.{List}
 use Prim.Native.Nat.{ℕ, _+_, _%_, _≤_, _<_}
 use native.Mathlib.Omega.{arith}
@@ -8,7 +8,7 @@ use lib.Dec.{eqb, ltb}
 use lib.ListN.{length}
 use borrow.Author.Tests.{eqb-true, eqb-false, ltb-false, not-false, eq-eqb, ne-eqb, lt-ltb, le-ltb}
 use Rattle.units.proofs.Lowest.{found}
-use Rattle.units.proofs.Tests.{chosen}
+use Rattle.units.proofs.Tests.{chosen, neither}
 use Rattle.sheet.specs.declared.Vehicle.{Vehicle}
 use Rattle.sheet.specs.declared.Closing.{Closing}
 use Rattle.sheet.specs.declared.Examination.{Examination}
@@ -18,10 +18,6 @@ use Rattle.sheet.specs.Layout.{byte, word, vehicleGood, vehicleIn, runGo
 use Rattle.sheet.specs.Examining.{lastOf, wrongSize, noVehicle, noClosing, goodAt, lowestBroken, examined}
 
 -- ---- the size
-
-or-no : (a b : Bool) → (a || b) ≡ false → (a ≡ false) × (b ≡ false)
-or-no true b e = absurd (true≢false e)
-or-no false b e = (refl, e)
 
 -- a sheet of the right size has whole records, at least one and at most 1,024
 pub record Sized (s : List ℕ) : Type 0 where
@@ -33,8 +29,8 @@ pub sized : (s : List ℕ) → wrongSize s ≡ false → Sized s
 unfolding wrongSize records
 sized s e =
     let n = length s in
-    let p = or-no (eqb n 0 || ltb 32768 n) (not (eqb (n % 32) 0)) e in
-    let q = or-no (eqb n 0) (ltb 32768 n) (p .0) in
+    let p = neither (eqb n 0 || ltb 32768 n) (not (eqb (n % 32) 0)) e in
+    let q = neither (eqb n 0) (ltb 32768 n) (p .0) in
     let nonempty = eqb-false n 0 (q .0) in
     let small = ltb-false 32768 n (q .1) in
     let whole = eqb-true (n % 32) 0 (not-false (eqb (n % 32) 0) (p .1)) in
@@ -99,7 +95,7 @@ module _ (s : List ℕ) (v : Vehicle) (z : Closing) where
   unfolding noClosing
   closed e =
       let r = recordAt s (lastOf s) in
-      let second = or-no (not (eqb (byte r 0) 9)) (not (eqb (word r 2 + 2) (records s))) e .1 in
+      let second = neither (not (eqb (byte r 0) 9)) (not (eqb (word r 2 + 2) (records s))) e .1 in
       eqb-true (word r 2 + 2) (records s) (not-false (eqb (word r 2 + 2) (records s)) second)
 
   built : wrongSize s ≡ false → noClosing s ≡ false → records s ≤ lowestBroken s → Whole (vehicleIn (recordAt s 0)) (closingIn (recordAt s (lastOf s))) ≡ Whole v z → WholeSheet s v z

@@ -1,9 +1,9 @@
 -- Laws of `lowest`: one step, what it says when it finds a number and when it finds none, and the one number that passes.
 -- Assumes nothing.
-use mathlib.Core.Path.{_≡_, refl}
-use mathlib.Core.Bool.{Bool, true, false}
+use mathlib.Core.Path.{_≡_, refl, sym, ap, _∙_}
+use mathlib.Core.Bool.{Bool, true, false, true≢false}
 use Prim.Native.Nat.{ℕ, zero, suc, _+_, _-_, _≤_, _<_}
-use native.Mathlib.Nat.{le-antisymm, lt-of-le-of-lt}
+use native.Mathlib.Nat.{le-antisymm, lt-of-le-of-lt, lt-of-lt-of-le}
 use native.Mathlib.Numerals.{add-one}
 use native.Mathlib.Omega.{arith}
 use lib.Dec.{T, leb}
@@ -21,19 +21,28 @@ module _ (test : ℕ → Bool) where
   unfolding lowest
   lowest-next count n e = rw (e, lowest)
 
-  -- the same where the numbers end before `end`, as a loop goes through them
+  -- ---- a loop from 0 to before `end`: none of the numbers before i passes, so what is left decides
 
-  pub lowest-stop : (end i : ℕ) → i < end → test i ≡ true → lowest test (end - i) i ≡ i
-  lowest-stop end i h e = let more : end - i ≡ suc (end - (i + 1)) = omega arith in rw more (lowest-here (end - (i + 1)) i e)
+  pub Passed : ℕ → ℕ → Type 0
+  Passed end i = lowest test end 0 ≡ lowest test (end - i) i
 
-  pub lowest-step : (end i : ℕ) → i < end → test i ≡ false → lowest test (end - i) i ≡ lowest test (end - (i + 1)) (i + 1)
-  lowest-step end i h e =
+  pub passed-start : (end : ℕ) → Passed end 0
+  unfolding Passed
+  passed-start end = let all : end ≡ end - 0 = omega arith in ap (λ (n : ℕ). lowest test n 0) all
+
+  pub passed-next : (end i : ℕ) → i < end → test i ≡ false → Passed end i → Passed end (i + 1)
+  unfolding Passed
+  passed-next end i h e p =
       let more : end - i ≡ suc (end - (i + 1)) = omega arith in
-      rw (more, add-one i) (lowest-next (end - suc i) i e)
+      p ∙ rw (more, add-one i) (lowest-next (end - suc i) i e)
 
-  pub lowest-end : (i : ℕ) → lowest test (i - i) i ≡ i
-  unfolding lowest
-  lowest-end i = let none : i - i ≡ 0 = omega arith in rw none
+  pub passed-stop : (end i : ℕ) → i < end → test i ≡ true → Passed end i → lowest test end 0 ≡ i
+  unfolding Passed
+  passed-stop end i h e p = let more : end - i ≡ suc (end - (i + 1)) = omega arith in p ∙ rw more (lowest-here (end - (i + 1)) i e)
+
+  pub passed-end : (end i : ℕ) → end ≤ i → Passed end i → lowest test end 0 ≡ i
+  unfolding Passed lowest
+  passed-end end i h p = let none : end - i ≡ 0 = omega arith in p ∙ ap (λ (n : ℕ). lowest test n i) none
 
   -- ---- what it finds: no number before it passes, and it passes itself unless it is past the last
 
@@ -63,6 +72,30 @@ module _ (test : ℕ → Bool) where
           split : (k : ℕ) (b : Bool) → leb k n ≡ b → n ≤ k → k < lowest test count (suc n) → test k ≡ false
           split k true f l m = let same : k ≡ n = le-antisymm (leb-true k n f) l in rw same e
           split k false f l m = rest .before k (leb-false k n f) m
+
+  -- it is not past a number that passes
+  pub lowest-most : (count n k : ℕ) → n ≤ k → test k ≡ true → lowest test count n ≤ k
+  lowest-most count n k l p = by (leb (lowest test count n) k) refl
+    where
+      by : (b : Bool) → leb (lowest test count n) k ≡ b → lowest test count n ≤ k
+      by true e = leb-true (lowest test count n) k e
+      by false e = absurd (true≢false (sym p ∙ found count n .before k l (leb-false (lowest test count n) k e)))
+
+  -- a number with these properties is the lowest
+  pub lowest-is : (count n r : ℕ) → Lowest count n r → lowest test count n ≡ r
+  lowest-is count n r l = le-antisymm (not-past r (lowest test count n) l (found count n)) (not-past (lowest test count n) r (found count n) l)
+    where
+      clash : (x : ℕ) → test x ≡ true → test x ≡ false → ⊥
+      clash x p q = true≢false (sym p ∙ q)
+
+      not-past : (x y : ℕ) → Lowest count n x → Lowest count n y → y ≤ x
+      not-past x y p q = by (leb y x) refl
+        where
+          by : (b : Bool) → leb y x ≡ b → y ≤ x
+          by true e = leb-true y x e
+          by false e =
+              let h = leb-false y x e in
+              absurd (clash x (p .passes (lt-of-lt-of-le h (q .most))) (q .before x (p .least) h))
 
   -- the number that alone passes is the lowest that does
   pub lowest-alone : (N : ℕ) → T (test N) → ((M : ℕ) → T (test M) → M ≡ N) → (count n : ℕ) → n ≤ N → N < n + count → lowest test count n ≡ N

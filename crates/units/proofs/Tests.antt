@@ -1,6 +1,6 @@
 -- Laws of tests: where every test passes, each does; and a choice by a test. Assumes nothing.
 use mathlib.Core.Path.{_≡_, refl, sym, ap, ap₂, _∙_}
-use mathlib.Core.Bool.{Bool, true, false, cond, _&&_, and-true, and-assoc}
+use mathlib.Core.Bool.{Bool, true, false, cond, _&&_, _||_, and-true, and-assoc, true≢false}
 use mathlib.Core.List.{List, [], _∷_}
 use Prim.Native.Nat.{ℕ, zero, suc}
 use lib.Dec.{T}
@@ -40,3 +40,13 @@ alike (also e r) = ap₂ _&&_ e (alike r)
 -- Code that has passed the first test of a list and joins the others decides as the list does.
 pub chained : {l a b : Bool} {xs ys : List Bool} → l ≡ true → a ≡ b → Alike xs ys → chain a xs ≡ allOf (l ∷ (b ∷ ys))
 chained {l} {a} {b} {xs} {ys} first e r = chain-is a xs ∙ ap₂ _&&_ e (alike r) ∙ sym (ap (λ (t : Bool). t && (b && allOf ys)) first)
+
+-- ---- two tests
+
+pub both : (p q : Bool) → (p && q) ≡ true → (p ≡ true) × (q ≡ true)
+both true q e = (refl, e)
+both false q e = absurd (true≢false (sym e))
+
+pub neither : (p q : Bool) → (p || q) ≡ false → (p ≡ false) × (q ≡ false)
+neither true q e = absurd (true≢false e)
+neither false q e = (refl, e)

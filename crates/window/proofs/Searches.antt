@@ -8,8 +8,7 @@ use lib.ListN.{length, take}
 use lib.Seq.{getD-take}
 use lib.Dec.{ltb}
 use borrow.Author.Tests.{lt-ltb, le-ltb, ltb-true, ltb-false}
-use Rattle.units.specs.Lowest.{lowest}
-use Rattle.units.proofs.Lowest.{Lowest, found, lowest-stop, lowest-step}
+use Rattle.units.proofs.Lowest.{Lowest, found, Passed, passed-start, passed-next, passed-stop, passed-end}
 use Rattle.units.proofs.Tests.{chosen}
 use Rattle.window.specs.declared.ValidRun.{ValidRun}
 use Rattle.window.specs.declared.Four.{Four}
@@ -18,30 +17,25 @@ use Rattle.window.specs.declared.Window.the-variants.{Runs, Nothing}
 use Rattle.window.specs.Windows.{fitting, nobody, fourAt, firstPlace, firstWindow}
 
 module _ (rest : List ValidRun) where
-  -- nothing fits before place i: what is left decides
+  -- nothing fits before place i
   pub Reached : ℕ → Type 0
-  Reached i = firstPlace rest ≡ lowest (λ k. fitting (fourAt rest k)) (length rest - 3 - i) i
+  Reached i = Passed (λ k. fitting (fourAt rest k)) (length rest - 3) i
 
   pub reached-start : Reached 0
-  unfolding Reached firstPlace
-  reached-start = let all : length rest - 3 ≡ length rest - 3 - 0 = omega arith in ap (λ (n : ℕ). lowest (λ k. fitting (fourAt rest k)) n 0) all
+  unfolding Reached
+  reached-start = passed-start (λ k. fitting (fourAt rest k)) (length rest - 3)
 
   pub reached-next : (i : ℕ) → i + 3 < length rest → fitting (fourAt rest i) ≡ false → Reached i → Reached (i + 1)
   unfolding Reached
-  reached-next i h e r = r ∙ lowest-step (λ k. fitting (fourAt rest k)) (length rest - 3) i (omega arith) e
+  reached-next i h e r = passed-next (λ k. fitting (fourAt rest k)) (length rest - 3) i (omega arith) e r
 
   pub found-here : (i : ℕ) → i + 3 < length rest → fitting (fourAt rest i) ≡ true → Reached i → firstWindow rest ≡ Runs (fourAt rest i)
-  unfolding Reached firstWindow
-  found-here i h e r =
-      let here : firstPlace rest ≡ i = r ∙ lowest-stop (λ k. fitting (fourAt rest k)) (length rest - 3) i (omega arith) e in
-      simp (here, lt-ltb i (length rest - 3) (omega arith))
+  unfolding Reached firstWindow firstPlace
+  found-here i h e r = simp (passed-stop (λ k. fitting (fourAt rest k)) (length rest - 3) i (omega arith) e r, lt-ltb i (length rest - 3) (omega arith))
 
   pub found-nowhere : (i : ℕ) → length rest ≤ i + 3 → Reached i → firstWindow rest ≡ Nothing
-  unfolding Reached firstWindow lowest
-  found-nowhere i h r =
-      let none : length rest - 3 - i ≡ 0 = omega arith in
-      let here : firstPlace rest ≡ i = r ∙ ap (λ (n : ℕ). lowest (λ k. fitting (fourAt rest k)) n i) none in
-      simp (here, le-ltb i (length rest - 3) (omega arith))
+  unfolding Reached firstWindow firstPlace
+  found-nowhere i h r = simp (passed-end (λ k. fitting (fourAt rest k)) (length rest - 3) i (omega arith) r, le-ltb i (length rest - 3) (omega arith))
 
 -- four neighbours among the first `count` runs
 pub four-taken : (runs : List ValidRun) (count i : ℕ) → i + 3 < count → fourAt (take count runs) i ≡ fourAt runs i

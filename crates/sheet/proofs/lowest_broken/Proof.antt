@@ -3,9 +3,9 @@ use mathlib.Core.Path.{_≡_, sym, ap, _∙_}
 use native.Mathlib.Omega.{arith}
 use mathlib.Core.Bool.{Bool, not}
 use mathlib.Core.List.{List}
-use Prim.Native.Nat.{ℕ, _-_, _≤_}
+use Prim.Native.Nat.{ℕ, _-_}
 use Rattle.units.specs.Lowest.{lowest}
-use Rattle.units.proofs.Lowest.{lowest-stop, lowest-step, lowest-end}
+use Rattle.units.proofs.Lowest.{Passed, passed-start, passed-next, passed-stop, passed-end}
 use Rattle.sheet.specs.Examining.{goodAt, lowestBroken}
 use Rattle.sheet.specs.Records.{records}
 use Rattle.sheet.proofs.lowest_broken.Statement.{statement}
@@ -16,7 +16,7 @@ abbrev broken : List ℕ → ℕ → Bool
 broken s i = not (goodAt s i)
 
 abbrev Inv-loop : tie.InvT-loop
-Inv-loop sheet count last i₀ i = (i ≤ count) × (lowestBroken sheet ≡ lowest (broken sheet) (count - i) i)
+Inv-loop sheet count last i₀ i = Passed (broken sheet) count i
 
 abbrev μ-loop : tie.MeasureT-loop
 μ-loop sheet count last i₀ i = count - i
@@ -25,11 +25,7 @@ sub-last : tie.Need-sub-last Inv-loop μ-loop
 sub-last c = omega arith
 
 loop-holds : tie.Need-loop-holds Inv-loop μ-loop
-unfolding lowestBroken
-loop-holds c =
-    let s = c .before .args .sheet .now in
-    let all : records s ≡ c .before .args .count - 0 = omega arith in
-    (omega arith, ap (λ (n : ℕ). lowest (broken s) n 0) all)
+loop-holds c = passed-start (broken (c .before .args .sheet .now)) (c .before .args .count)
 
 good-at-requires : tie.Need-good-at-requires Inv-loop μ-loop
 good-at-requires c κs = ap (λ (n : ℕ). n - 1) (c .before .before .before .pre .1)
@@ -42,22 +38,20 @@ loop-less c = omega arith
 
 loop-again : tie.Need-loop-again Inv-loop μ-loop
 loop-again c =
-    let a = c .before .before .before .before .before .args in
-    let l = c .before .before .before .loop in
-    (omega arith, l .inv .1 ∙ lowest-step (broken (a .sheet .now)) (a .count) (l .i) (c .before .before .loop-test .taken) (ap not (sym (c .before .good-at .ensures) ∙ c .if1 .taken)))
+    passed-next _ _ _ (c .before .before .loop-test .taken) (ap not (sym (c .before .good-at .ensures) ∙ c .if1 .taken)) (c .before .before .before .loop .inv)
+
+-- the search goes through all records
+all : (s : List ℕ) (count : ℕ) → count ≡ records s → lowestBroken s ≡ lowest (broken s) count 0
+unfolding lowestBroken
+all s count e = ap (λ (n : ℕ). lowest (broken s) n 0) (sym e)
 
 returns : tie.Need-returns Inv-loop μ-loop
 returns c =
-    let a = c .before .before .before .before .before .args in
-    let l = c .before .before .before .loop in
-    sym (l .inv .1 ∙ lowest-stop (broken (a .sheet .now)) (a .count) (l .i) (c .before .before .loop-test .taken) (ap not (sym (c .before .good-at .ensures) ∙ c .if1 .left)))
+    let s = c .before .before .before .before .before in
+    sym (all _ _ (s .pre .1) ∙ passed-stop _ _ _ (c .before .before .loop-test .taken) (ap not (sym (c .before .good-at .ensures) ∙ c .if1 .left)) (c .before .before .before .loop .inv))
 
 returns-2 : tie.Need-returns-2 Inv-loop μ-loop
-returns-2 c =
-    let s = c .before .before .before .args .sheet .now in
-    let l = c .before .loop in
-    let met : c .before .before .before .args .count ≡ l .i = omega arith in
-    sym (l .inv .1 ∙ ap (λ (n : ℕ). lowest (broken s) (n - l .i) (l .i)) met ∙ lowest-end (broken s) (l .i))
+returns-2 c = sym (all _ _ (c .before .before .before .pre .1) ∙ passed-end _ _ _ (c .loop-test .left) (c .before .loop .inv))
 
 pub lowest-broken-spec : {M : Type 1} → statement M
 lowest-broken-spec =

@@ -1,0 +1,5 @@
+pub mod Accelerations
+pub mod Places
+pub mod Nearest
+pub mod Choices
+mod Examples

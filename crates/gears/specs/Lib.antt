@@ -1,0 +1,2 @@
+pub mod Acceleration
+pub mod Rules
