@@ -30,6 +30,12 @@ rounded-rising a b c d B D h = div-mono (2 * a + b) (2 * b) (2 * c + d) (2 * d) 
 pub rounded-same : (a b c d : ℕ) → 0 < b → 0 < d → a * d ≡ c * b → rounded a b ≡ rounded c d
 rounded-same a b c d B D e = le-antisymm (rounded-rising a b c d B D (le-of-eq e)) (rounded-rising c d a b D B (le-of-eq (sym e)))
 
+-- a fraction that is at most a whole number does not round above it
+pub rounded-most : (n d m : ℕ) → 0 < d → n ≤ d * m → rounded n d ≤ m
+rounded-most n d m h l =
+    let below : rounded n d < m + 1 = lt-of-mul-lt-mul-left (2 * d) (lt-of-le-of-lt (rounded-bounds n d h .0) (omega arith)) in
+    omega arith
+
 -- ---- by the remainder, as `round` reckons it
 
 -- a remainder below a half goes down

@@ -6,6 +6,7 @@ use native.Mathlib.Numerals.{add-one}
 use native.Mathlib.Omega.{arith}
 use lib.ListN.{length, take, set}
 use lib.Seq.{take-suc-set}
+use Rattle.units.proofs.Gathering.{gather, gathered}
 use Rattle.window.specs.declared.ValidRun.{ValidRun}
 use Rattle.window.specs.declared.Validity.{Validity}
 use Rattle.window.specs.declared.Validity.the-variants.{Valid, NotValid}
@@ -25,19 +26,20 @@ module _ (s : List ℕ) (background kind gear : ℕ) where
   unfolding Gathered
   gathered-start end runs = refl
 
+  -- record i is valid, or it is set aside
+  ahead-is : (end i count : ℕ) (runs : List ValidRun) (x : Validity) → i < end → candidateOf s background kind gear i ≡ x → Gathered end runs count i → take count runs ++ ahead x (restFrom s background kind gear (i + 1) (end - (i + 1))) ≡ restFrom s background kind gear 1 (end - 1)
+  unfolding Gathered
+  ahead-is end i count runs x h e g =
+      sym (ap (λ (l : List ValidRun). take count runs ++ l) (step end i h ∙ ap (λ (v : Validity). ahead v (restFrom s background kind gear (i + 1) (end - (i + 1)))) e)) ∙ g
+
   pub gathered-valid : (end i count : ℕ) (runs : List ValidRun) (v : ValidRun) → i < end → count < length runs → candidateOf s background kind gear i ≡ Valid v → Gathered end runs count i → Gathered end (set runs count v) (count + 1) (i + 1)
   unfolding Gathered
-  gathered-valid end i count runs v h l e g =
-      rw (add-one count, take-suc-set runs count v l, append-assoc)
-      (sym (ap (λ (x : List ValidRun). take count runs ++ x) (step end i h ∙ ap (λ (x : Validity). ahead x (restFrom s background kind gear (i + 1) (end - (i + 1)))) e)) ∙ g)
+  gathered-valid end i count runs v h l e g = gather runs count _ _ v l (ahead-is end i count runs (Valid v) h e g)
 
   pub gathered-other : (end i count : ℕ) (runs : List ValidRun) → i < end → candidateOf s background kind gear i ≡ NotValid → Gathered end runs count i → Gathered end runs count (i + 1)
   unfolding Gathered
-  gathered-other end i count runs h e g =
-      sym (ap (λ (x : List ValidRun). take count runs ++ x) (step end i h ∙ ap (λ (x : Validity). ahead x (restFrom s background kind gear (i + 1) (end - (i + 1)))) e)) ∙ g
+  gathered-other end i count runs h e g = ahead-is end i count runs NotValid h e g
 
   pub gathered-all : (end i count : ℕ) (runs : List ValidRun) → end ≤ i → Gathered end runs count i → take count runs ≡ restFrom s background kind gear 1 (end - 1)
   unfolding Gathered restFrom
-  gathered-all end i count runs h g =
-      let none : end - i ≡ 0 = omega arith in
-      sym (append-nil (take count runs)) ∙ sym (ap (λ (n : ℕ). take count runs ++ restFrom s background kind gear i n) none) ∙ g
+  gathered-all end i count runs h g = let none : end - i ≡ 0 = omega arith in gathered runs count _ _ (rw none) g

@@ -1,0 +1,190 @@
+-- `session::table_of` meets its contract: the entries of the places passed are in the table, and no gear passed lacks a window.
+-- Assumes nothing.
+use borrow.Author.Needs.{needs}
+use mathlib.Core.Path.{_≡_, refl, sym, ap, _∙_}
+use native.Mathlib.Omega.{arith}
+use mathlib.Core.Bool.{Bool, false}
+use mathlib.Core.List.{List}
+use mathlib.Core.Logic.{⊎-elim}
+use Prim.Native.Nat.{ℕ, _+_, _-_, _≤_, _<_}
+use lib.ListN.{length, set, length-set}
+use Rattle.units.proofs.Lowest.{Passed, passed-start, passed-next, passed-stop, passed-end}
+use Rattle.window.specs.declared.Four.{Four}
+use Rattle.gears.specs.declared.Gear.{Gear}
+use Rattle.session.specs.Table.{Track, trackOf, Entry, stateOf, lacking, ahead, lowestLacking, gearsOf, windowsOf}
+use Rattle.session.proofs.Tables.{Tabling, tabling-start, tabling-remains, tabling-other, tabling-all}
+use Rattle.session.specs.declared.State.{State}
+use Rattle.session.specs.declared.State.the-variants.{Remains, Dropped, NoRun}
+use Rattle.session.proofs.table_of.Statement.{statement}
+use Rattle.session.proofs.table_of.Tie as tie
+
+-- a gear lacks a window
+abbrev lacks : Track → ℕ → Bool
+lacks t p = lacking (stateOf t (p + 1))
+
+abbrev gear-of : Entry → Gear
+gear-of e = e .gear
+
+abbrev window-of : Entry → Four
+window-of e = e .window
+
+-- the table so far, before place p
+record Ready (t : Track) (gears : List Gear) (windows : List Four) (count p : ℕ) : Type 0 where
+  gears-long : length gears ≡ 16
+  windows-long : length windows ≡ 16
+  few : count ≤ p
+  all : p ≤ 16
+  none : Passed (lacks t) 16 p
+  gears-so-far : Tabling t gear-of gears count p
+  windows-so-far : Tabling t window-of windows count p
+
+-- one place more
+
+module _ (t : Track) (gears : List Gear) (windows : List Four) (count p : ℕ) where
+  ready-remains : (g : Gear) (f : Four) → p < 16 → stateOf t (p + 1) ≡ Remains g f → Ready t gears windows count p → Ready t (set gears count g) (set windows count f) (count + 1) (p + 1)
+  ready-remains g f h e r =
+      record {
+        gears-long = length-set gears count g ∙ r .gears-long;
+        windows-long = length-set windows count f ∙ r .windows-long;
+        few = omega (arith, r .few);
+        all = omega arith;
+        none = passed-next _ _ _ h (ap lacking e) (r .none);
+        gears-so-far = tabling-remains t gear-of gears count p g f h (omega (arith, r .few, r .gears-long)) e (r .gears-so-far);
+        windows-so-far = tabling-remains t window-of windows count p g f h (omega (arith, r .few, r .windows-long)) e (r .windows-so-far);
+      }
+
+  ready-other : (x : State) → lacking x ≡ false → ((rest : List Entry) → ahead x rest ≡ rest) → p < 16 → stateOf t (p + 1) ≡ x → Ready t gears windows count p → Ready t gears windows count (p + 1)
+  ready-other x fine keeps h e r =
+      record {
+        gears-long = r .gears-long;
+        windows-long = r .windows-long;
+        few = omega (arith, r .few);
+        all = omega arith;
+        none = passed-next _ _ _ h (ap lacking e ∙ fine) (r .none);
+        gears-so-far = tabling-other t gear-of x keeps gears count p h e (r .gears-so-far);
+        windows-so-far = tabling-other t window-of x keeps windows count p h e (r .windows-so-far);
+      }
+
+abbrev Inv-loop : tie.InvT-loop
+Inv-loop sheet background rated path seen gears₀ windows₀ count₀ p₀ gears windows count p = Ready (trackOf sheet (background .0) rated path) gears windows count p
+
+abbrev μ-loop : tie.MeasureT-loop
+μ-loop sheet background rated path seen gears₀ windows₀ count₀ p₀ gears windows count p = 16 - p
+
+present-requires : tie.Need-present-requires Inv-loop μ-loop
+present-requires c κs = search needs
+
+loop-holds : tie.Need-loop-holds Inv-loop μ-loop
+loop-holds c = record { gears-long = refl; windows-long = refl; few = omega arith; all = omega arith; none = passed-start _ _; gears-so-far = tabling-start _ _ _; windows-so-far = tabling-start _ _ _ }
+
+add-here : tie.Need-add-here Inv-loop μ-loop
+add-here c = omega arith
+
+array-read-here : tie.Need-array-read-here Inv-loop μ-loop
+array-read-here c = omega arith
+
+add-state-of : tie.Need-add-state-of Inv-loop μ-loop
+add-state-of c = omega arith
+
+cast-state-of : tie.Need-cast-state-of Inv-loop μ-loop
+cast-state-of c = omega arith
+
+state-of-requires : tie.Need-state-of-requires Inv-loop μ-loop
+state-of-requires c κs =
+    let s = c .before .before .before .before in
+    (s .pre .0, (s .pre .1, c .before .before .present .ensures (c .before .loop .p + 1) (omega arith)))
+
+enum-known-state : tie.Need-enum-known-state Inv-loop μ-loop
+enum-known-state c = search needs
+
+mul-gears : tie.Need-mul-gears Inv-loop μ-loop
+mul-gears c = omega arith
+
+array-set-from-gears : tie.Need-array-set-from-gears Inv-loop μ-loop
+array-set-from-gears c = omega arith
+
+mul-windows : tie.Need-mul-windows Inv-loop μ-loop
+mul-windows c = omega arith
+
+array-set-from-windows : tie.Need-array-set-from-windows Inv-loop μ-loop
+array-set-from-windows c = omega arith
+
+add-count : tie.Need-add-count Inv-loop μ-loop
+add-count c = omega arith
+
+enum-told : tie.Need-enum-told Inv-loop μ-loop
+enum-told c = search needs
+
+returns : tie.Need-returns Inv-loop μ-loop
+unfolding lowestLacking
+returns c =
+    let l = c .before .before .before .before .loop in
+    let here = passed-stop _ _ _ (c .before .before .before .loop-test .taken) (ap lacking (sym (c .before .before .state-of .ensures) ∙ c .enum-told .given .1)) (l .inv .none) in
+    record { lacks = sym here; few = omega arith; gears = λ e. absurd (omega arith); windows = λ e. absurd (omega arith) }
+
+enum-told-2 : tie.Need-enum-told-2 Inv-loop μ-loop
+enum-told-2 c = search needs
+
+enum-told-3 : tie.Need-enum-told-3 Inv-loop μ-loop
+enum-told-3 c = search needs
+
+add-p : tie.Need-add-p Inv-loop μ-loop
+add-p c = omega arith
+
+loop-less : tie.Need-loop-less Inv-loop μ-loop
+loop-less c = omega arith
+
+loop-again : tie.Need-loop-again Inv-loop μ-loop
+loop-again c =
+    let l = c .before .before .before .loop in
+    let inside = c .before .before .loop-test .taken in
+    let state = sym (c .before .state-of .ensures) in
+    ⊎-elim
+    (λ w. rw (w .3, w .4, w .5) (ready-remains _ _ _ _ _ (w .1 .given .0 .0) (w .1 .given .0 .1 .0) inside (state ∙ w .1 .given .1) (l .inv)))
+    (λ v.
+    ⊎-elim
+    (λ w. rw (w .2, w .3, w .4) (ready-other _ _ _ _ _ Dropped refl (λ rest. refl) inside (state ∙ w .1 .given .1) (l .inv)))
+    (λ w. rw (w .2, w .3, w .4) (ready-other _ _ _ _ _ NoRun refl (λ rest. refl) inside (state ∙ w .1 .given .1) (l .inv)))
+    v)
+    (c .match .came)
+
+returns-2 : tie.Need-returns-2 Inv-loop μ-loop
+unfolding lowestLacking gearsOf windowsOf
+returns-2 c =
+    let l = c .before .loop in
+    let r = l .inv in
+    let end = passed-end _ _ _ (c .loop-test .left) (r .none) in
+    record {
+      lacks = sym end;
+      few = omega (arith, r .few, r .all);
+      gears = λ e. tabling-all _ gear-of (l .gears) (l .count) (l .p) (c .loop-test .left) (r .gears-so-far);
+      windows = λ e. tabling-all _ window-of (l .windows) (l .count) (l .p) (c .loop-test .left) (r .windows-so-far);
+    }
+
+pub table-of-spec : {M : Type 1} → statement M
+table-of-spec =
+    tie.close
+    (tie.spec
+    Inv-loop
+    μ-loop
+    present-requires
+    loop-holds
+    add-here
+    array-read-here
+    add-state-of
+    cast-state-of
+    state-of-requires
+    enum-known-state
+    mul-gears
+    array-set-from-gears
+    mul-windows
+    array-set-from-windows
+    add-count
+    enum-told
+    returns
+    enum-told-2
+    enum-told-3
+    add-p
+    loop-less
+    loop-again
+    returns-2)
