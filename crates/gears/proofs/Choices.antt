@@ -72,6 +72,12 @@ pub record Paired (R : ℕ) (gears : List Gear) (i : ℕ) : Type 0 where
   pub above : R ≤ a gears i
   pub below : a gears (i + 1) < R
 
+-- a choice is of gears that remain, and of a pair the accelerations lie on both sides of R
+abbrev pub Selectable : ℕ → List Gear → Choice → Type 0
+Selectable R gears (One r p) = p < length gears
+Selectable R gears (Pair r i) = Paired R gears i
+Selectable R gears Nothing = Unit {0}
+
 module _ (R u : ℕ) (gears : List Gear) where
   j : Last (λ p. leb R (a gears p)) (length gears) (jOf R gears)
   unfolding jOf
@@ -86,33 +92,28 @@ module _ (R u : ℕ) (gears : List Gear) where
         below = rw next (leb-false R (a gears (jOf R gears)) (j .after (jOf R gears) (omega arith) l));
       }
 
-  abbrev pub Sound : Choice → Type 0
-  Sound (One r p) = p < length gears
-  Sound (Pair r i) = Paired R gears i
-  Sound Nothing = Unit {0}
-
-  one-sound : (rule p : ℕ) → Sound (oneAt rule gears p)
+  one-sound : (rule p : ℕ) → Selectable R gears (oneAt rule gears p)
   unfolding oneAt
-  one-sound rule p = chosen Sound (ltb p (length gears)) _ _ (λ e. ltb-true p (length gears) e) (λ e. tt)
+  one-sound rule p = chosen (Selectable R gears) (ltb p (length gears)) _ _ (λ e. ltb-true p (length gears) e) (λ e. tt)
 
-  across-sound : Sound (acrossOf u gears (jOf R gears))
+  across-sound : Selectable R gears (acrossOf u gears (jOf R gears))
   unfolding acrossOf
   across-sound =
-      chosen Sound (eqb (jOf R gears) 0 || leb (length gears) (jOf R gears)) _ _ (λ e. tt)
+      chosen (Selectable R gears) (eqb (jOf R gears) 0 || leb (length gears) (jOf R gears)) _ _ (λ e. tt)
       (λ both.
       let p = neither (eqb (jOf R gears) 0) (leb (length gears) (jOf R gears)) both in
       let h : 0 < jOf R gears = omega (arith, eqb-false (jOf R gears) 0 (p .0)) in
       let l = leb-false (length gears) (jOf R gears) (p .1) in
-      chosen Sound (leb (a gears (jOf R gears - 1)) 300) _ _ (λ e. paired h l)
-      (λ high. chosen Sound (leb u (a gears (jOf R gears))) _ _ (λ e. one-sound 4 (firstBelow gears)) (λ e. paired h l)))
+      chosen (Selectable R gears) (leb (a gears (jOf R gears - 1)) 300) _ _ (λ e. paired h l)
+      (λ high. chosen (Selectable R gears) (leb u (a gears (jOf R gears))) _ _ (λ e. one-sound 4 (firstBelow gears)) (λ e. paired h l)))
 
-  -- every choice is of gears that remain, and of a pair the accelerations lie on both sides of R
-  pub sound : Sound (choiceOf R u gears)
+  -- so is every choice of the rules
+  pub sound : Selectable R gears (choiceOf R u gears)
   unfolding choiceOf
   sound =
-      chosen Sound (eqb (length gears) 0) _ _ (λ e. tt)
-      (λ some. chosen Sound (eqb (length gears) 1) _ _ (λ e. omega (arith, eqb-true (length gears) 1 e))
-      (λ many. chosen Sound (ltb (nearest R gears) (length gears)) _ _ (λ e. ltb-true (nearest R gears) (length gears) e) (λ none. across-sound)))
+      chosen (Selectable R gears) (eqb (length gears) 0) _ _ (λ e. tt)
+      (λ some. chosen (Selectable R gears) (eqb (length gears) 1) _ _ (λ e. omega (arith, eqb-true (length gears) 1 e))
+      (λ many. chosen (Selectable R gears) (ltb (nearest R gears) (length gears)) _ _ (λ e. ltb-true (nearest R gears) (length gears) e) (λ none. across-sound)))
 
   -- Rule 4 always finds a gear: a(j) is below R, which is at most 3.01, and at 3.00 rule 2 would have taken it.
   pub rule-4-finds : R ≤ 301 → length gears ≤ nearest R gears → 0 < jOf R gears → jOf R gears < length gears → firstBelow gears < length gears

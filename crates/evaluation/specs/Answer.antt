@@ -1,0 +1,58 @@
+-- What the caller gets: the answer, and every byte of the buffer (document 01, "Refusals and what remains").
+use Prim.Native.Nat.{ℕ}
+use mathlib.Core.Bool.{cond}
+use mathlib.Core.List.{List, _++_}
+use lib.Dec.{ltb}
+use lib.ListN.{length, drop}
+use Rattle.urban.specs.Result.{resultBytes}
+use Rattle.evaluation.specs.declared.Refusal.{Refusal}
+use Rattle.evaluation.specs.declared.Refusal.the-variants.{ShortBuffer, WrongSize, NoVehicle, NoClosing, BrokenRecord, PmrOutOfRange, NoRun, NoWindow, NotFalling, NoRule, NoConstantSpeed}
+use Rattle.evaluation.specs.declared.Decision.{Decision}
+use Rattle.evaluation.specs.declared.Decision.the-variants as decision
+use Rattle.evaluation.specs.declared.Answer.{Answer}
+use Rattle.evaluation.specs.declared.Answer.the-variants.{Accepted, Refused}
+use Rattle.evaluation.specs.Decision.{decisionOf}
+
+-- the table's number of a refusal
+abbrev pub numberOf : Refusal → ℕ
+numberOf ShortBuffer = 1
+numberOf WrongSize = 2
+numberOf NoVehicle = 3
+numberOf (NoClosing n) = 4
+numberOf (BrokenRecord n) = 5
+numberOf PmrOutOfRange = 6
+numberOf NoRun = 7
+numberOf (NoWindow g) = 7
+numberOf (NotFalling g) = 8
+numberOf NoRule = 9
+numberOf (NoConstantSpeed g) = 10
+
+-- and its place: 0, a record or a gear
+abbrev pub placeOf : Refusal → ℕ
+placeOf ShortBuffer = 0
+placeOf WrongSize = 0
+placeOf NoVehicle = 0
+placeOf (NoClosing n) = n
+placeOf (BrokenRecord n) = n
+placeOf PmrOutOfRange = 0
+placeOf NoRun = 0
+placeOf (NoWindow g) = g
+placeOf (NotFalling g) = g
+placeOf NoRule = 0
+placeOf (NoConstantSpeed g) = g
+
+unfoldable pub answerBy : Decision → Answer
+answerBy (decision.Refused r) = Refused r
+answerBy (decision.Result o) = Accepted
+
+-- row 1: a buffer under 32 bytes; then the sheet decides
+unfoldable pub answerOf : List ℕ → ℕ → Answer
+answerOf s size = cond (ltb size 32) (Refused ShortBuffer) (answerBy (decisionOf s))
+
+-- on a refusal the buffer stays as it was; on success the result stands in its first 32 bytes, and the others stay
+unfoldable pub bufferBy : Decision → List ℕ → List ℕ
+bufferBy (decision.Refused r) b = b
+bufferBy (decision.Result o) b = resultBytes o ++ drop 32 b
+
+unfoldable pub bufferOf : List ℕ → List ℕ → List ℕ
+bufferOf s b = cond (ltb (length b) 32) b (bufferBy (decisionOf s) b)
