@@ -1,3 +1,4 @@
 pub mod Decision
 pub mod Sound
 pub mod Answer
+pub mod Demand

@@ -29,6 +29,8 @@ ghost use Rattle.sheet.specs.declared.Examination.the-variants.{Whole};
 ghost use Rattle.evaluation.specs.Sound.{Weighable};
 ghost use Rattle.gears.proofs.Choices.{Selectable};
 ghost use Rattle.evaluation.specs.Answer.{numberOf, placeOf, answerOf, bufferOf};
+ghost use Rattle.evaluation.specs.Demand.{CloseTo};
+ghost use Rattle.units.specs.Bytes.{number};
 
 // The causes of a refusal, in the order in which they are checked.
 pub enum Refusal {
@@ -333,6 +335,7 @@ pub fn decide(sheet: &[u8]) -> Decision
 pub fn evaluate(sheet: &[u8], result: &mut [u8]) -> Answer
     ensures answer { λ r. ⌜ r ≡ answerOf (now (sheet .entry)) (length (now (result .entry))) ⌝ }
     ensures buffer { λ r. ⌜ now (result .exit) ≡ bufferOf (now (sheet .entry)) (now (result .entry)) ⌝ }
+    ensures close { λ r. ⌜ (r ≡ Answer.Accepted → CloseTo (now (sheet .entry)) (number (now (result .exit)) 10 2)) ⌝ }
 {
     if result.len() < 32 {
         return Answer::Refused(Refusal::ShortBuffer);

@@ -1,14 +1,26 @@
 -- `evaluation::evaluate` meets its contract. Assumes nothing.
 use borrow.Author.Needs.{needs}
-use mathlib.Core.Path.{sym, _∙_}
+use mathlib.Core.Path.{sym, _∙_, _≡_, ap, subst}
 use borrow.Author.Tests.{lt-ltb, le-ltb}
+use mathlib.Core.List.{List}
+use Prim.Native.Nat.{ℕ}
+use native.Mathlib.Omega.{arith}
 use Rattle.evaluation.specs.Answer.{answerBy, answerOf, bufferBy, bufferOf}
+use Rattle.units.specs.Bytes.{number}
+use Rattle.urban.proofs.Results.{at-ten}
+use Rattle.evaluation.specs.declared.Refusal.{Refusal}
+use Rattle.evaluation.specs.declared.Answer.the-variants.{Accepted, Refused}
+use Rattle.evaluation.specs.Demand.{CloseTo}
+use Rattle.evaluation.proofs.Accepted.{close-to}
 use Rattle.evaluation.proofs.evaluate.Statement.{statement}
 use Rattle.evaluation.proofs.evaluate.Tie as tie
 
+not-accepted : {r : Refusal} → Refused r ≡ Accepted → ⊥
+not-accepted e = let z : _≡_ {A = ℕ} 0 1 = cc in omega arith
+
 returns : tie.Need-returns
 unfolding answerOf bufferOf
-returns c = (simp (lt-ltb _ _ (c .if1 .taken)), simp (lt-ltb _ _ (c .if1 .taken)))
+returns c = (simp (lt-ltb _ _ (c .if1 .taken)), (simp (lt-ltb _ _ (c .if1 .taken)), λ e. absurd (not-accepted e)))
 
 decide-requires : tie.Need-decide-requires
 decide-requires c κs = search needs
@@ -27,7 +39,7 @@ unfolding answerOf bufferOf answerBy bufferBy
 returns-2 c =
     let e = c .before .before .before in
     let refused = sym (e .decide .ensures) ∙ c .before .r .given .1 in
-    (simp (le-ltb _ _ (e .before .if1 .left), refused), simp (le-ltb _ _ (e .before .if1 .left), refused))
+    (simp (le-ltb _ _ (e .before .if1 .left), refused), (simp (le-ltb _ _ (e .before .if1 .left), refused), λ a. absurd (not-accepted a)))
 
 same-length : tie.Need-same-length
 same-length c = search needs
@@ -37,7 +49,9 @@ unfolding answerOf bufferOf answerBy bufferBy
 returns-3 c =
     let e = c .before .before .before .before .before .before .before in
     let accepted = sym (e .decide .ensures) ∙ c .before .before .before .before .before .o .given .1 in
-    (simp (le-ltb _ _ (e .before .if1 .left), accepted), simp (le-ltb _ _ (e .before .if1 .left), accepted) (c .before .before .write .ensures))
+    let written = c .before .before .write .ensures in
+    let level = ap (λ (b : List ℕ). number b 10 2) written ∙ at-ten (c .before .before .before .before .before .o .given .0 .0) _ in
+    (simp (le-ltb _ _ (e .before .if1 .left), accepted), (simp (le-ltb _ _ (e .before .if1 .left), accepted) written, λ a. subst (CloseTo _) (sym level) (close-to _ _ accepted)))
 
 pub evaluate-spec : {M : Type 1} → statement M
 evaluate-spec =
