@@ -1,0 +1,121 @@
+//! Valid runs and windows (document 01, "From levels to windows").
+
+use crate::rounded;
+use crate::sheet::{Reading, Run, RunKind, Session};
+
+const CORRECTIONS: [i32; 6] = [5, 4, 3, 2, 1, 0];
+const WIDEST_SPAN: i32 = 20;
+
+/// A valid run: corrected levels in tenths, speeds and engine speed.
+#[derive(Clone, Copy)]
+pub struct ValidRun {
+    left: i32,
+    right: i32,
+    start_speed: u16,
+    end_speed: u16,
+    engine_speed: u16,
+}
+
+impl ValidRun {
+    /// Step 3.
+    fn of(run: &Run, background: i32) -> Option<ValidRun> {
+        match (run.struck, run.left, run.right) {
+            (false, Reading::Level(left), Reading::Level(right)) => Some(ValidRun {
+                left: corrected(left, background)?,
+                right: corrected(right, background)?,
+                start_speed: run.start_speed,
+                end_speed: run.end_speed,
+                engine_speed: run.engine_speed,
+            }),
+            _ => None,
+        }
+    }
+
+    /// Step 6, in hundredths; `distance` is c + length.
+    fn acceleration(&self, distance: u32) -> u32 {
+        let square = |speed: u16| u32::from(speed).pow(2);
+        rounded(625 * (square(self.end_speed) - square(self.start_speed)), 162 * distance)
+    }
+}
+
+/// Step 2: the corrected level, if d is at least 10.0.
+fn corrected(level: i32, background: i32) -> Option<i32> {
+    let d = level - background;
+    let off = CORRECTIONS.get(usize::try_from(d / 10 - 10).ok()?).unwrap_or(&0);
+    Some(level - off)
+}
+
+fn span(four: &[ValidRun], side: impl Fn(&ValidRun) -> i32) -> i32 {
+    let (lowest, highest) =
+        four.iter().map(side).fold((i32::MAX, i32::MIN), |(low, high), level| (low.min(level), high.max(level)));
+    highest - lowest
+}
+
+/// Four neighbouring valid runs of one gear and run kind.
+#[derive(Clone, Copy)]
+pub struct Window<'a>(&'a [ValidRun]);
+
+impl<'a> Window<'a> {
+    /// Step 4: the first window.
+    fn first(runs: &'a [ValidRun]) -> Option<Window<'a>> {
+        let is_window = |four: &&[ValidRun]| {
+            span(four, |run| run.left) <= WIDEST_SPAN && span(four, |run| run.right) <= WIDEST_SPAN
+        };
+        runs.windows(4).find(is_window).map(Window)
+    }
+
+    /// Step 5, in tenths.
+    pub fn level(&self) -> u32 {
+        let left: i32 = self.0.iter().map(|run| run.left).sum();
+        let right: i32 = self.0.iter().map(|run| run.right).sum();
+        rounded(left.max(right) as u32, 4)
+    }
+
+    /// Step 6, last sentence.
+    pub fn acceleration(&self, distance: u32) -> u32 {
+        rounded(self.0.iter().map(|run| run.acceleration(distance)).sum(), 4)
+    }
+
+    pub fn exceeds(&self, rated_speed: u16) -> bool {
+        self.0.iter().any(|run| run.engine_speed > rated_speed)
+    }
+}
+
+/// The valid runs of each gear and run kind, in the sheet's order.
+#[derive(Default)]
+pub struct RunsByGear {
+    acceleration: [Vec<ValidRun>; 16],
+    constant: [Vec<ValidRun>; 16],
+    driven: [bool; 16],
+}
+
+impl RunsByGear {
+    pub fn of(session: &Session) -> RunsByGear {
+        let mut grouped = RunsByGear::default();
+        for run in &session.runs {
+            let gear = usize::from(run.gear) - 1;
+            let group = match run.kind {
+                RunKind::Acceleration => {
+                    grouped.driven[gear] = true;
+                    &mut grouped.acceleration[gear]
+                }
+                RunKind::Constant => &mut grouped.constant[gear],
+            };
+            group.extend(ValidRun::of(run, session.background));
+        }
+        grouped
+    }
+
+    /// The gears with an acceleration run, valid or not, in rising number.
+    pub fn driven(&self) -> impl Iterator<Item = u8> + '_ {
+        (1..=16).filter(|&gear| self.driven[usize::from(gear) - 1])
+    }
+
+    pub fn acceleration_window(&self, gear: u8) -> Option<Window<'_>> {
+        Window::first(&self.acceleration[usize::from(gear) - 1])
+    }
+
+    pub fn constant_window(&self, gear: u8) -> Option<Window<'_>> {
+        Window::first(&self.constant[usize::from(gear) - 1])
+    }
+}

@@ -1,0 +1,160 @@
+#!/usr/bin/env python3
+"""The corpus: a fixed set of sheets with the reckoner's line for each.
+
+    python3 tools/corpus.py --spread                the spread over rules, refusals and groups; fails if one is thin
+    python3 tools/corpus.py --write DIR             writes sheets.bin and expected.txt
+    python3 tools/corpus.py --check DIR             fails unless DIR holds what --write would write
+    python3 tools/corpus.py --damaged N SEED DIR    writes N damaged and random sheets with their lines
+    python3 tools/corpus.py --demand3               checks "close" and "rising" of demand 3
+
+sheets.bin holds, for each sheet, its length in four bytes, low byte first, and its bytes.
+A length of 0xFFFFFFFF ends it.
+"""
+
+import os
+import sys
+from collections import Counter
+
+from damage import damaged_sheets, raised
+from groups import GROUPS, random_session
+from make import Random
+from reckon import Refused, chosen_records, excess, is_close, is_rising, line, reckon
+
+SEED = 51
+END = 2 ** 32 - 1
+LEAST_SHEETS, LEAST_OF_EACH = 2000, 30
+PAIRS_OF_A_SHEET, MORE_SESSIONS = 8, 2000  # for demand 3
+
+
+def corpus():
+    """Each sheet with the name of its group. Each group has a pseudo-random source of its own, by its name."""
+    for group in GROUPS:
+        seed = SEED + int.from_bytes(group.__name__.encode(), "little")
+        for sheet in group(Random(seed)):
+            yield group.__name__, sheet
+
+
+def packed(sheets):
+    """The bytes of sheets.bin."""
+    parts = [len(sheet).to_bytes(4, "little") + sheet for sheet in sheets]
+    return b"".join(parts) + END.to_bytes(4, "little")
+
+
+def lines(sheets):
+    """The bytes of expected.txt."""
+    return "".join(line(sheet) + "\n" for sheet in sheets).encode()
+
+
+def write(directory, sheets):
+    os.makedirs(directory, exist_ok=True)
+    for name, content in (("sheets.bin", packed(sheets)), ("expected.txt", lines(sheets))):
+        with open(os.path.join(directory, name), "wb") as file:
+            file.write(content)
+        print(f"{name}: {len(content)} bytes")
+    print(f"{len(sheets)} sheets")
+
+
+def check(directory, sheets):
+    """Whether a directory holds these sheets and their lines."""
+    same = True
+    for name, content in (("sheets.bin", packed(sheets)), ("expected.txt", lines(sheets))):
+        with open(os.path.join(directory, name), "rb") as file:
+            agrees = file.read() == content
+        print(f"{name}: {'as made' if agrees else 'DIFFERS'}")
+        same = same and agrees
+    return same
+
+
+def outcome(text):
+    """A rule or a refusal, from a line."""
+    word, number = text.split()[:2]
+    return f"rule {number}" if word == "OK" else f"refusal {number}"
+
+
+OUTCOMES = [f"rule {n}" for n in range(1, 6)] + [f"refusal {n}" for n in range(2, 11)]
+
+
+def spread():
+    """Prints the spread; returns whether it is wide enough."""
+    found = [(group, outcome(line(sheet)), len(sheet)) for group, sheet in corpus()]
+    totals = Counter(result for _, result, _ in found)
+    print(f"{len(found)} sheets, {sum(length for *_, length in found)} bytes")
+    for result in OUTCOMES:
+        print(f"  {result:<11}{totals[result]:>5}")
+    print("\nby group")
+    for group in GROUPS:
+        counts = Counter(result for name, result, _ in found if name == group.__name__)
+        shown = ", ".join(f"{result} {counts[result]}" for result in OUTCOMES if counts[result])
+        print(f"  {group.__name__:<24}{sum(counts.values()):>5}  {shown}")
+    return len(found) >= LEAST_SHEETS and all(totals[result] >= LEAST_OF_EACH for result in OUTCOMES)
+
+
+def all_sheets():
+    return [sheet for _, sheet in corpus()]
+
+
+def accepted(sheets):
+    """The accepted sheets with their evaluations."""
+    for sheet in sheets:
+        try:
+            yield sheet, reckon(sheet)
+        except Refused:
+            pass
+
+
+def check_close(evaluations):
+    """Prints how many reported values are close, and the worst error; returns whether all are."""
+    close = sum(is_close(evaluation) for evaluation in evaluations)
+    worst = max(excess(evaluation) for evaluation in evaluations)
+    attained = sum(excess(evaluation) == worst for evaluation in evaluations)
+    print(f"close: {close} of {len(evaluations)} accepted sheets; "
+          f"worst |error| - (Dk + Dp)/200 is {worst} dB ({attained} times), at most 3/5 allowed")
+    return close == len(evaluations)
+
+
+def rising_verdicts(random, found):
+    """For each accepted sheet, pairs made by raising chosen levels: True, False, or None if the runs chosen differ."""
+    for sheet, evaluation in found:
+        for _ in range(PAIRS_OF_A_SHEET if len(sheet) < 3000 else 2):
+            second = raised(random, sheet, chosen_records(evaluation))
+            yield is_rising(sheet, second), second != sheet
+
+
+def check_rising(found):
+    """Prints how many pairs rise; returns whether none falls."""
+    counts = Counter(rising_verdicts(Random(SEED), found))
+    print(f"rising: {counts[True, True]} pairs do not fall, {counts[False, True]} fall; "
+          f"{counts[None, True]} pairs had other runs chosen or a refusal, {counts[True, False]} were alike")
+    return counts[False, True] == 0
+
+
+def demand_3():
+    random = Random(SEED)
+    found = list(accepted(all_sheets() + [random_session(random) for _ in range(MORE_SESSIONS)]))
+    close = check_close([evaluation for _, evaluation in found])
+    return check_rising(found) and close
+
+
+def write_damaged(count, seed, directory):
+    write(directory, list(damaged_sheets(Random(seed), all_sheets(), count)))
+
+
+def main(arguments):
+    if arguments == ["--spread"]:
+        return spread()
+    if len(arguments) == 2 and arguments[0] == "--write":
+        write(arguments[1], all_sheets())
+        return True
+    if len(arguments) == 2 and arguments[0] == "--check":
+        return check(arguments[1], all_sheets())
+    if len(arguments) == 4 and arguments[0] == "--damaged":
+        write_damaged(int(arguments[1]), int(arguments[2]), arguments[3])
+        return True
+    if arguments == ["--demand3"]:
+        return demand_3()
+    print(__doc__, file=sys.stderr)
+    return False
+
+
+if __name__ == "__main__":
+    sys.exit(0 if main(sys.argv[1:]) else 1)

@@ -1,0 +1,186 @@
+#!/usr/bin/env python3
+"""Document 01's driven examples, and each line of "Where the spreadsheet tempts".
+
+    python3 tools/examples.py      prints each example; fails if the reckoner's answer is not the paper's
+
+Numbers are tenths of dB(A), hundredths of m/s² and tenths of PMR, as in the result record.
+"""
+
+import sys
+from fractions import Fraction
+
+import reckon
+from reckon import ACCELERATION_RUN, CONSTANT_RUN, a_ref_of, a_urban_of, corrected, line
+from sheets import decibels, run, sheet, speeds_for, tenths, vehicle, worked_sheet
+
+STAR = "★ "
+
+
+def level_tenths(text):
+    """A float's tenths: a background of 0 leaves it uncorrected."""
+    return corrected(reckon.float_value(decibels(text)), 0)
+
+
+def taken_off(d):
+    """The correction for a difference d in tenths, or "not valid"."""
+    level = corrected(Fraction(400 + d, 10), 400)
+    return "not valid" if level is None else 400 + d - level
+
+
+def window_records(lefts, rights):
+    """The record numbers of the first window of runs in one gear; the first run is record 1."""
+    runs = [run(ACCELERATION_RUN, 3, decibels(left), decibels(right)) for left, right in zip(lefts, rights)]
+    whole = sheet(vehicle(), runs)
+    records = reckon.records_of(whole)
+    read = [reckon.read_run(at, record) for at, record in enumerate(records[1:-1], start=1)]
+    window = reckon.find_window(read, reckon.read_vehicle(records[0], records[-1]), ACCELERATION_RUN, 3)
+    return "none" if window is None else [one.record for one in window]
+
+
+def acceleration_of(start, end, length):
+    """Step 6 for one run from AA'."""
+    whole = sheet(vehicle(length=length), [run(ACCELERATION_RUN, 3, tenths(700), tenths(700), start, end)])
+    records = reckon.records_of(whole)
+    return reckon.run_acceleration(reckon.read_run(1, records[1]), reckon.read_vehicle(records[0], records[-1]))
+
+
+def four(kind, gear, level, a=0):
+    """Four equal runs."""
+    start, end = (500, 500) if kind == CONSTANT_RUN else speeds_for(a)
+    return [run(kind, gear, tenths(level), tenths(level), start, end)] * 4
+
+
+def gears_sheet(*gears, **fields):
+    """A sheet of (gear, acceleration, acceleration level, constant-speed level), four equal runs of each."""
+    runs = [one for gear, a, W, C in gears
+            for one in four(ACCELERATION_RUN, gear, W, a) + four(CONSTANT_RUN, gear, C)]
+    return sheet(vehicle(**fields), runs)
+
+
+def side_sheet(lefts, rights):
+    """One gear whose acceleration runs have the given levels in tenths, and equal constant-speed runs."""
+    start, end = speeds_for(149)
+    runs = [run(ACCELERATION_RUN, 3, tenths(left), tenths(right), start, end) for left, right in zip(lefts, rights)]
+    return sheet(vehicle(), runs + four(CONSTANT_RUN, 3, 650))
+
+
+# Each example: what the paper says, in words; the paper's answer; the reckoner's answer.
+
+def roundings():
+    yield STAR + "72.25 gives 72.3", 723, level_tenths("72.25")
+    yield STAR + "72.125 gives 72.1", 721, level_tenths("72.125")
+
+
+def corrections():
+    yield STAR + "d 10.9: 0.5 off", 5, taken_off(109)
+    yield "d 9.9: not valid", "not valid", taken_off(99)
+    yield STAR + "d 15.0: none off", 0, taken_off(150)
+
+
+def windows():
+    lefts = ("70.0", "72.1", "71.0", "71.0", "71.0")
+    yield STAR + "window is runs 2 to 5 (rights equal to lefts)", [2, 3, 4, 5], window_records(lefts, lefts)
+    yield STAR + "window is runs 2 to 5 (rights all 71.0)", [2, 3, 4, 5], window_records(lefts, ("71.0",) * 5)
+    within = ("70.0", "72.0", "71.0", "71.0", "71.0")
+    yield "70.0 with 72.0 is within", [1, 2, 3, 4], window_records(within, within)
+
+
+def hundredths_after(a_of, lowest):
+    """The values that begin at some q above the lowest, up to PMR 600.0."""
+    return [a_of(q) for q in range(lowest + 1, 6001) if a_of(q) != a_of(q - 1)]
+
+
+def references():
+    for star, text, q, paper in ((STAR, "25.0: 0.79, 0.81", 250, (79, 81)), ("", "24.9: 0.79, 0.79", 249, (79, 79)),
+                                 (STAR, "100.0: 1.17, 1.77", 1000, (117, 177)),
+                                 (STAR, "600.0: 1.66, 3.01", 6000, (166, 301))):
+        yield star + "PMR " + text, paper, (a_urban_of(q), a_ref_of(q))
+    yield "PMR 5.0: a_urban 0.35", 35, a_urban_of(50)
+    yield "a_urban's hundredths tabled, 36 to 166", list(range(36, 167)), hundredths_after(a_urban_of, 50)
+    yield "a_ref's hundredths tabled, 82 to 301", list(range(82, 302)), hundredths_after(a_ref_of, 250)
+
+
+def accelerations():
+    yield STAR + "length 450, AA' 44.0, BB' 56.0: 1.89", 189, acceleration_of(440, 560, 450)
+
+
+def gear_rules():
+    whole = gears_sheet((2, 156, 720, 650), (3, 142, 710, 650))
+    yield STAR + "R 1.49, gears 1.56 and 1.42: the first, alone", (2, 2, 0, 149), pick(whole, "rule", "i", "j", "a_ref")
+    one = gears_sheet((3, 100, 660, 660))
+    yield (STAR + "one gear, a 1.00, a_urban 1.06, W not below C: kp 0", (100, 106, 0),
+           pick(one, "a_test", "a_urban", "kp"))
+    quiet = gears_sheet((3, 100, 650, 660))
+    yield ("the same with W 65.0, C 66.0, PMR 66.7: kp 1, L_urban 66", (100, 650, 660, 667, 100, 66),
+           pick(quiet, "a_test", "W", "C", "PMR", "kp", "L_urban"))
+
+
+def pick(whole, *names):
+    evaluation = reckon.reckon(whole)
+    return tuple(getattr(evaluation, name) or 0 for name in names)
+
+
+def whole_sheets():
+    yield "one closing record alone: refusal 3", "REFUSED 3 0", line(worked_sheet()[-32:])
+    yield "one vehicle record alone: refusal 4", "REFUSED 4 0", line(worked_sheet()[:32])
+    yield STAR + "whole sheet", "OK 3 3 4 78 29 719 658 70 106 149 667 149 1", line(worked_sheet())
+
+
+EXAMPLES = (roundings, corrections, windows, references, accelerations, gear_rules, whole_sheets)
+
+
+# Each temptation: in words; the paper's answer; the reckoner's; and what the spreadsheet would say.
+
+def tempted_negative_half():
+    """k 0.50 and L(i) one tenth below L(j): the product is minus half a tenth."""
+    whole = gears_sheet((2, 169, 700, 650), (3, 129, 701, 650))
+    yield "a negative k × (L(i) − L(j)) is not rounded by itself: k, W", (50, 701), pick(whole, "k", "W"), (50, 700)
+
+
+def tempted_a_ref():
+    """One gear with a 1.56 where a_ref is 1.49: 1 − 106/156 is 0.3205, 1 − 106/149 is 0.2886."""
+    whole = gears_sheet((2, 156, 720, 650), (3, 142, 710, 650))
+    yield "a' of one gear is its own acceleration: a', kp", (156, 32), pick(whole, "a_test", "kp"), (149, 29)
+
+
+def tempted_sum_of_sides():
+    alike = side_sheet((700, 720, 720, 720), (700, 720, 720, 720))
+    opposed = side_sheet((700, 721, 721, 721), (721, 700, 700, 700))
+    yield "each side spans 2.0, alike (the sum spans 4.0): a window", "OK", line(alike).split()[0], "no window"
+    yield "each side spans 2.1, opposed (the sum spans 0): no window", "REFUSED 7 3", line(opposed), "a window"
+
+
+def tempted_any_four():
+    levels = (700, 700, 750, 700, 700)
+    yield "70, 70, 75, 70, 70: no window", "REFUSED 7 3", line(side_sheet(levels, levels)), "a window"
+
+
+TEMPTATIONS = (tempted_negative_half, tempted_a_ref, tempted_sum_of_sides, tempted_any_four)
+
+
+def shown(answer):
+    """An answer in words; a long list by its ends."""
+    is_long = isinstance(answer, list) and len(answer) > 10
+    return f"{answer[0]} to {answer[-1]}, {len(answer)} values" if is_long else str(answer)
+
+
+def report(title, paper, found, tempting=None):
+    """Prints one example; returns whether the reckoner agrees with the paper."""
+    agrees = paper == found
+    spreadsheet = "" if tempting is None else f"   (spreadsheet: {tempting})"
+    print(f"{'agrees' if agrees else 'DIFFERS'}: {title} -> {shown(found)}{spreadsheet}"
+          + ("" if agrees else f"   paper: {shown(paper)}"))
+    return agrees
+
+
+def main():
+    print("Driven examples")
+    verdicts = [report(*example) for group in EXAMPLES for example in group()]
+    print("Where the spreadsheet tempts")
+    verdicts += [report(*example) for group in TEMPTATIONS for example in group()]
+    print(f"{verdicts.count(True)} agree, {verdicts.count(False)} differ")
+    return 1 if False in verdicts else 0
+
+
+if __name__ == "__main__":
+    sys.exit(main())

@@ -1,0 +1,228 @@
+"""Parts that the corpus is made of: a fixed pseudo-random source, floats at the edges of a tenth, planned gears."""
+
+from fractions import Fraction
+from typing import NamedTuple, Optional
+
+import sheets
+from reckon import (ABSENT, ACCELERATION_RUN, CONSTANT_RUN, HIGHEST_LEVEL, LEVEL, LOWEST_LEVEL, OVERLOAD, a_ref_of,
+                    a_urban_of, float_value, rounded)
+
+MASK = 2 ** 64 - 1
+
+
+class Random:
+    """The splitmix64 sequence of a seed: the same on every machine."""
+
+    def __init__(self, seed):
+        self.state = seed & MASK
+
+    def next(self):
+        self.state = (self.state + 0x9E3779B97F4A7C15) & MASK
+        z = self.state
+        z = (z ^ z >> 30) * 0xBF58476D1CE4E5B9 & MASK
+        z = (z ^ z >> 27) * 0x94D049BB133111EB & MASK
+        return z ^ z >> 31
+
+    def below(self, bound):
+        return self.next() % bound
+
+    def between(self, lowest, highest):
+        return lowest + self.below(highest - lowest + 1)
+
+    def chance(self, percent):
+        return self.below(100) < percent
+
+    def pick(self, choices):
+        return choices[self.below(len(choices))]
+
+    def shuffled(self, items):
+        mixed = list(items)
+        for at in range(len(mixed) - 1, 0, -1):
+            other = self.below(at + 1)
+            mixed[at], mixed[other] = mixed[other], mixed[at]
+        return mixed
+
+
+# Floats.
+
+def bits_of(four):
+    return int.from_bytes(four, "little")
+
+
+def float_step(four, steps):
+    """The positive float so many places above (or below) another."""
+    return (bits_of(four) + steps).to_bytes(4, "little")
+
+
+def lowest_float(bound):
+    """The lowest positive float that is not below a bound."""
+    four = float_step(sheets.float_bytes(bound), -2)
+    while float_value(four) < bound:
+        four = float_step(four, 1)
+    return four
+
+
+def float_at_edge(level, edge):
+    """A float that rounds to a level in tenths: the nearest (0), the lowest (-1) or the highest (1) one."""
+    if edge == 0:
+        return sheets.tenths(level)
+    bound = Fraction(2 * level + edge, 20)
+    four = lowest_float(bound) if edge < 0 else float_step(lowest_float(bound), -1)
+    return four if LOWEST_LEVEL <= float_value(four) <= HIGHEST_LEVEL else sheets.tenths(level)
+
+
+# Cars. A car is the fields of a vehicle record by name.
+
+def power_and_mass(random, q):
+    """A power and a mass whose rounded PMR is q tenths."""
+    for _ in range(20):
+        mass = random.between(300, 3000)
+        power = rounded(Fraction(q * mass, 1000))
+        if 10 <= power <= 20000 and rounded(Fraction(1000 * power, mass)) == q:
+            return power, mass
+    return q, 1000
+
+
+def car_of(random, q, **fields):
+    """A car of PMR q with a length, a start line and a limit of its own."""
+    power, mass = power_and_mass(random, q)
+    car = dict(power=power, mass=mass, length=random.pick((100, 380, 450, 500, 523, 1500, 2000)),
+               start_line=random.below(2), category=random.between(1, 2), limit=random.between(66, 76),
+               background=random.pick((0, 300, 400)))
+    car.update(fields)
+    return car
+
+
+def distance_of(car):
+    """c + length of step 6."""
+    return (1000 if car.get("start_line", 0) else 2000) + car.get("length", 450)
+
+
+# Planned gears: runs whose rounded acceleration and rounded levels are known beforehand.
+
+class Gear(NamedTuple):
+    gear: int
+    a: int
+    W: int
+    C: Optional[int] = None  # no constant-speed runs if None
+    engine: int = 4000
+
+
+# Offsets of four values whose mean rounds to the planned value; a sum of -2 is a half that goes up.
+LEVEL_OFFSETS = ((0, 0, 0, 0), (0, 0, -1, -1), (-2, 0, 0, 0), (10, -10, 0, 0), (-1, 0, 0, 0), (1, 0, 0, 0),
+                 (9, -11, 1, -1), (5, -5, 3, -3), (-10, 10, -1, 0), (1, 1, -1, 0))
+ACCELERATION_OFFSETS = ((0, 0, 0, 0), (0, 0, -1, -1), (-2, 0, 0, 0), (1, 0, 0, 0), (-1, 0, 0, 0), (2, -2, 1, -2))
+
+
+def four_levels(random, level, plain):
+    offsets = (0, 0, 0, 0) if plain else random.shuffled(random.pick(LEVEL_OFFSETS))
+    return [level + offset for offset in offsets]
+
+
+def four_sides(random, level, plain):
+    """The lefts and the rights of four runs whose condition level is the planned one."""
+    loud = four_levels(random, level, plain)
+    quiet = loud if plain or random.chance(30) else four_levels(random, level - random.between(1, 30), plain)
+    return (loud, quiet) if random.chance(50) else (quiet, loud)
+
+
+def four_accelerations(random, a, plain):
+    offsets = (0, 0, 0, 0) if plain or a < 2 else random.shuffled(random.pick(ACCELERATION_OFFSETS))
+    return [a + offset for offset in offsets]
+
+
+def speeds_of(random, a, distance):
+    """Speeds for an acceleration, slow or fast."""
+    try:
+        return sheets.speeds_for(a, distance, random.pick((10, 300, 500)))
+    except ValueError:
+        return sheets.speeds_for(a, distance)
+
+
+def edge_of(random, plain):
+    return 0 if plain else random.pick((-1, 0, 0, 1))
+
+
+def acceleration_runs(random, car, gear, plain=False):
+    lefts, rights = four_sides(random, gear.W, plain)
+    runs = []
+    for left, right, a in zip(lefts, rights, four_accelerations(random, gear.a, plain)):
+        start, end = speeds_of(random, a, distance_of(car))
+        runs.append(sheets.run(ACCELERATION_RUN, gear.gear, float_at_edge(left, edge_of(random, plain)),
+                               float_at_edge(right, edge_of(random, plain)), start, end, gear.engine))
+    return runs
+
+
+def constant_runs(random, gear, level, plain=False):
+    lefts, rights = four_sides(random, level, plain)
+    return [sheets.run(CONSTANT_RUN, gear, float_at_edge(left, edge_of(random, plain)),
+                       float_at_edge(right, edge_of(random, plain)), 500 + random.below(5), 495 + random.below(10))
+            for left, right in zip(lefts, rights)]
+
+
+def gear_runs(random, car, gears, plain=False):
+    runs = []
+    for gear in gears:
+        runs += acceleration_runs(random, car, gear, plain)
+        if gear.C is not None:
+            runs += constant_runs(random, gear.gear, gear.C, plain)
+    return runs
+
+
+def interleaved(random, runs):
+    """The runs mixed, each gear and run kind in its own order."""
+    groups = {}
+    for run in runs:
+        groups.setdefault((run[0], run[1]), []).append(run)
+    order = random.shuffled([key for key, group in groups.items() for _ in group])
+    queues = {key: iter(group) for key, group in groups.items()}
+    return [next(queues[key]) for key in order]
+
+
+def sheet_of(random, car, gears, plain=False):
+    """A sheet of planned gears, in order or mixed."""
+    runs = gear_runs(random, car, gears, plain)
+    runs = runs if plain or random.chance(50) else interleaved(random, runs)
+    return sheets.sheet(sheets.vehicle(**car), runs, random.pick((0, car.get("background", 400))))
+
+
+def spoiled(random, run):
+    """A copy of a run made not valid: struck, overload or absent on a side, or too near the background."""
+    record = bytearray(run)
+    way = random.below(4)
+    side = random.below(2)
+    if way == 0:
+        record[2] = 1
+    elif way == 1:
+        record[3 + side] = OVERLOAD
+    elif way == 2:
+        record[3 + side] = ABSENT
+        record[8 + 4 * side:12 + 4 * side] = bytes(4)
+    else:
+        record[8 + 4 * side:12 + 4 * side] = sheets.tenths(200 + random.below(90))
+    return bytes(record)
+
+
+def loud_copy(run, level):
+    """A copy of a run with both levels replaced, in tenths."""
+    return run[:3] + bytes([LEVEL, LEVEL]) + run[5:8] + sheets.tenths(level) * 2 + run[16:]
+
+
+# Accelerations around R and a_urban.
+
+def is_near(a, R):
+    return 20 * abs(a - R) <= R and a <= 300
+
+
+def first_above(R):
+    """The lowest acceleration above R that rule 2 does not take."""
+    return next(a for a in range(R, 400) if not is_near(a, R))
+
+
+def first_below(R):
+    """The highest acceleration below R that rule 2 does not take."""
+    return next(a for a in range(R - 1, -1, -1) if not is_near(a, R))
+
+
+def references(q):
+    return a_urban_of(q), a_ref_of(q)
