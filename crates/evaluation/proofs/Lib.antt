@@ -1,3 +1,4 @@
 pub mod Selections
 pub mod Decisions
 pub mod Accepted
+pub mod Starred

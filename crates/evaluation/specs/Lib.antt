@@ -2,3 +2,4 @@ pub mod Decision
 pub mod Sound
 pub mod Answer
 pub mod Demand
+pub mod Starred

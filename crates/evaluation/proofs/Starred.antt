@@ -1,0 +1,61 @@
+-- Every starred example of document 01 holds: one computed test over their table. Assumes nothing.
+use mathlib.Core.Path.{_≡_, refl, ap₂}
+use mathlib.Core.Bool.{Bool, true, false, _&&_}
+use mathlib.Core.List.{List, [], _∷_, map}
+use Prim.Native.Nat.{ℕ, zero, suc, _<_}
+use native.Mathlib.Nat.{le-of-suc-le-suc, not-suc-le-zero}
+use lib.Dec.{T, eqb, eqb→eq}
+use lib.Ieee.Fits.{and-l, and-r}
+use lib.Ieee.{ofBits}
+use lib.ListN.{length, getD}
+use Rattle.units.specs.Bytes.{number}
+use Rattle.units.specs.Lowest.{lowest}
+use Rattle.units.specs.Rounding.{rounded}
+use Rattle.units.specs.Tests.{allOf}
+use Rattle.level.specs.Correction.{corrections, correctionOf, correctedSide, sideOf}
+use Rattle.level.specs.Level.{inRange, tenthsOf}
+use Rattle.level.specs.Reading.{readingOf}
+use Rattle.reference.specs.Reference.{pmrOf, between, aUrban, aRef}
+use Rattle.sheet.specs.Records.{records, recordAt}
+use Rattle.sheet.specs.Layout.{zeros, vehicleTests, vehicleGood, vehicleIn, runTests, runGood, runIn, readingFrom, closingTests, closingGood, closingIn}
+use Rattle.sheet.specs.Examining.{wrongSize, noVehicle, noClosing, goodAt, lowestBroken, examined}
+use Rattle.window.specs.Runs.{bothSides, validOf, candidateOf, restFrom, restOf}
+use Rattle.window.specs.Windows.{spanned, fitting, nobody as window·nobody, fourAt, firstPlace, firstWindow, largerSum}
+use Rattle.gears.specs.Acceleration.{accelerationOf, meanOf}
+use Rattle.gears.specs.Rules.{nobody as gears·nobody, a, firstNotFalling, apart, near, nearer, nearest, pastLast, jOf, firstBelow, oneAt, acrossOf, choiceOf, kOf}
+use Rattle.session.specs.Table.{some, accelerates, anyRun, hasRun, windowOf, within, gearAcceleration, byWindow, stateOf, lowestLacking, remainingFrom, remaining, gearsOf, windowsOf}
+use Rattle.urban.specs.Demand.{chosenOf}
+use Rattle.urban.specs.Urban.{partPower, lUrbanOf, outcomeOf}
+use Rattle.urban.specs.Weighing.{weighedLevel, basisOf}
+use Rattle.evaluation.specs.Decision.{trackIn, referenceAt, noFour, gearAt, windowAt, weighedGear, selectOne, selectPair, selectedIn, selectionBy, finishBy, decideGears, decideWhole, decideBy, decisionOf}
+use Rattle.evaluation.specs.Starred.{Example, gives, shouldGive, Holds, starred}
+
+same : List ℕ → List ℕ → Bool
+same [] [] = true
+same (x ∷ xs) (y ∷ ys) = eqb x y && same xs ys
+same [] (y ∷ ys) = false
+same (x ∷ xs) [] = false
+
+same→≡ : (xs ys : List ℕ) → T (same xs ys) → xs ≡ ys
+unfolding same
+same→≡ [] [] t = refl
+same→≡ (x ∷ xs) (y ∷ ys) t = ap₂ _∷_ (eqb→eq x y (and-l (eqb x y) (same xs ys) t)) (same→≡ xs ys (and-r (eqb x y) (same xs ys) t))
+same→≡ [] (y ∷ ys) t = absurd t
+same→≡ (x ∷ xs) [] t = absurd t
+
+test : Example → Bool
+test e = same (gives e) (shouldGive e)
+
+every-test : T (allOf (map test starred))
+unfolding starred same test number lowest rounded corrections correctionOf correctedSide sideOf inRange tenthsOf readingOf ofBits pmrOf between aUrban aRef records recordAt zeros vehicleTests vehicleGood vehicleIn runTests runGood runIn readingFrom closingTests closingGood closingIn wrongSize noVehicle noClosing goodAt lowestBroken examined bothSides validOf candidateOf restFrom restOf spanned fitting window·nobody fourAt firstPlace firstWindow largerSum accelerationOf meanOf gears·nobody a firstNotFalling apart near nearer nearest pastLast jOf firstBelow oneAt acrossOf choiceOf kOf some accelerates anyRun hasRun windowOf within gearAcceleration byWindow stateOf lowestLacking remainingFrom remaining gearsOf windowsOf chosenOf partPower lUrbanOf outcomeOf weighedLevel basisOf trackIn referenceAt noFour gearAt windowAt weighedGear selectOne selectPair selectedIn selectionBy finishBy decideGears decideWhole decideBy decisionOf
+every-test = tt
+
+tested : (none : Example) (es : List Example) → T (allOf (map test es)) → (n : ℕ) → n < length es → Holds (getD es n none)
+unfolding test
+tested none [] t n h = absurd (not-suc-le-zero h)
+tested none (e ∷ es) t zero h = same→≡ (gives e) (shouldGive e) (and-l (test e) (allOf (map test es)) t)
+tested none (e ∷ es) t (suc n) h = tested none es (and-r (test e) (allOf (map test es)) t) n (le-of-suc-le-suc h)
+
+-- every example of the table holds
+pub every-starred : (none : Example) (n : ℕ) → n < length starred → Holds (getD starred n none)
+every-starred none = tested none starred every-test
