@@ -3,3 +3,5 @@ pub mod Sound
 pub mod Answer
 pub mod Demand
 pub mod Starred
+pub mod Causes
+pub mod Verdict

@@ -19,7 +19,6 @@ use Rattle.gears.specs.declared.Choice.{Choice}
 use Rattle.gears.specs.declared.Choice.the-variants as choice
 use Rattle.gears.specs.Acceleration.{accelerationOf}
 use Rattle.gears.specs.Rules.{choiceOf}
-use Rattle.urban.specs.declared.Outcome.{Outcome}
 use Rattle.urban.specs.Result.{flag}
 use Rattle.urban.specs.Urban.{lUrbanOf}
 use Rattle.evaluation.specs.declared.Decision.{Decision}

@@ -1,0 +1,84 @@
+-- The ten causes of a refusal (document 01, "Refusals and what remains"), each a test by itself, and what it is to be the first that holds.
+use mathlib.Core.Path.{_≡_}
+use Prim.Native.Nat.{ℕ, _-_, _+_, _<_}
+use mathlib.Core.Bool.{Bool, true, false, not, _||_}
+use mathlib.Core.List.{List, [], _∷_}
+use lib.Dec.{ltb}
+use lib.ListN.{length, getD}
+use Rattle.sheet.specs.declared.Vehicle.{Vehicle}
+use Rattle.sheet.specs.Records.{records, recordAt}
+use Rattle.sheet.specs.Layout.{vehicleIn, closingIn}
+use Rattle.sheet.specs.Examining.{lastOf, wrongSize, noVehicle, noClosing, lowestBroken}
+use Rattle.reference.specs.Reference.{pmrOf, aUrban, aRef}
+use Rattle.window.specs.declared.Window.{Window}
+use Rattle.window.specs.declared.Window.the-variants as window
+use Rattle.gears.specs.declared.Choice.{Choice}
+use Rattle.gears.specs.declared.Choice.the-variants as choice
+use Rattle.gears.specs.Rules.{firstNotFalling, choiceOf}
+use Rattle.session.specs.Table.{Track, anyRun, windowOf, lowestLacking, gearsOf}
+use Rattle.evaluation.specs.declared.Answer.{Answer}
+use Rattle.evaluation.specs.declared.Answer.the-variants.{Accepted, Refused}
+use Rattle.evaluation.specs.Answer.{numberOf}
+use Rattle.evaluation.specs.Decision.{trackIn, gearAt}
+
+-- The first and the last record, read as a vehicle and a closing record. Where no cause of rows 2 to 5 holds, that is what they are.
+unfoldable pub vehicleOf : List ℕ → Vehicle
+vehicleOf s = vehicleIn (recordAt s 0)
+
+unfoldable pub trackOf : List ℕ → Track
+trackOf s = trackIn s (vehicleOf s) (closingIn (recordAt s (lastOf s)))
+
+unfoldable pub pmrIn : List ℕ → ℕ
+pmrIn s = pmrOf (vehicleOf s .power) (vehicleOf s .mass)
+
+-- what the rules decide on
+unfoldable pub choiceIn : List ℕ → Choice
+choiceIn s = choiceOf (aRef (pmrIn s)) (aUrban (pmrIn s)) (gearsOf (trackOf s))
+
+-- no gear remains, or no rule applies
+abbrev pub undecided : Choice → Bool
+undecided (choice.One rule p) = false
+undecided (choice.Pair rule p) = false
+undecided choice.Nothing = true
+
+abbrev pub missing : Window → Bool
+missing (window.Runs f) = false
+missing window.Nothing = true
+
+-- the gear at a place has no constant-speed window
+unfoldable pub unmeasuredAt : Track → ℕ → Bool
+unmeasuredAt t p = missing (windowOf (t .sheet) (t .background) 3 (gearAt (gearsOf t) p .number))
+
+abbrev pub unmeasured : Track → Choice → Bool
+unmeasured t (choice.One rule p) = unmeasuredAt t p
+unmeasured t (choice.Pair rule p) = unmeasuredAt t p || unmeasuredAt t (p + 1)
+unmeasured t choice.Nothing = false
+
+unfoldable pub causes : List ℕ → ℕ → List Bool
+causes s size =
+    -- 1 to 5
+    ltb size 32
+    ∷ wrongSize s
+    ∷ noVehicle s
+    ∷ noClosing s
+    ∷ ltb (lowestBroken s) (records s)
+    -- 6: PMR under 5.0 or over 600.0
+    ∷ (ltb (pmrIn s) 50 || ltb 6000 (pmrIn s))
+    -- 7: no acceleration run, or a gear with one and no window
+    ∷ (not (anyRun s) || ltb (lowestLacking (trackOf s)) 16)
+    -- 8: neighbours that do not fall
+    ∷ ltb (firstNotFalling (gearsOf (trackOf s))) (length (gearsOf (trackOf s)) - 1)
+    -- 9 and 10
+    ∷ undecided (choiceIn s)
+    ∷ unmeasured (trackOf s) (choiceIn s)
+    ∷ []
+
+-- the number of a refusal; 0 for an accepted sheet
+abbrev pub refusalNumber : Answer → ℕ
+refusalNumber Accepted = 0
+refusalNumber (Refused r) = numberOf r
+
+-- the test at a place holds, and none before it does
+pub record First (tests : List Bool) (n : ℕ) : Type 0 where
+  pub here : getD tests n false ≡ true
+  pub before : (m : ℕ) → m < n → getD tests m false ≡ false
