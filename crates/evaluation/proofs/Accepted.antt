@@ -1,5 +1,5 @@
 -- What an accepted sheet is: whole, with chosen gears of which the result tells, and close to its figure. Assumes nothing.
-use mathlib.Core.Path.{_≡_, refl, sym, ap, subst, _∙_}
+use mathlib.Core.Path.{_≡_, refl, sym, ap, ap₂, subst, _∙_}
 use mathlib.Core.Bool.{not, _||_}
 use mathlib.Core.List.{List}
 use Prim.Native.Nat.{ℕ, _-_, _≤_, _<_}
@@ -8,39 +8,44 @@ use lib.Dec.{ltb}
 use lib.ListN.{length}
 use borrow.Author.Tests.{ltb-false}
 use Rattle.units.proofs.Tests.{chosen, neither}
-use Rattle.sheet.specs.declared.Vehicle.{Vehicle}
 use Rattle.sheet.specs.declared.Closing.{Closing}
 use Rattle.sheet.specs.declared.Examination.{Examination}
 use Rattle.sheet.specs.declared.Examination.the-variants as examination
-use Rattle.sheet.specs.Examining.{examined}
-use Rattle.reference.specs.Reference.{pmrOf, aUrban, aRef}
+use Rattle.sheet.specs.Records.{recordAt}
+use Rattle.sheet.specs.Layout.{closingIn}
+use Rattle.sheet.specs.Examining.{lastOf, examined}
+use Rattle.sheet.proofs.Examinations.{WholeSheet, whole}
+use Rattle.reference.specs.Reference.{aUrban, aRef}
 use Rattle.reference.proofs.References.{a-urban-the}
-use Rattle.gears.specs.Rules.{firstNotFalling, choiceOf}
-use Rattle.gears.proofs.Choices.{sound}
-use Rattle.session.specs.Table.{Track, anyRun, lowestLacking, gearsOf, windowsOf}
+use Rattle.gears.specs.Rules.{firstNotFalling}
+use Rattle.gears.proofs.Choices.{Selectable, sound}
+use Rattle.session.specs.Table.{anyRun, lowestLacking, gearsOf, windowsOf}
 use Rattle.urban.specs.declared.Reference.{Reference}
 use Rattle.urban.specs.declared.Outcome.{Outcome}
 use Rattle.urban.specs.Urban.{outcomeOf}
 use Rattle.urban.specs.Figure.{Gears}
 use Rattle.urban.specs.Demand.{chosenOf, reported, Straddled}
 use Rattle.urban.proofs.Close.{close}
-use Rattle.evaluation.specs.declared.Selection.the-variants as selection
 use Rattle.evaluation.specs.declared.Decision.{Decision}
 use Rattle.evaluation.specs.declared.Decision.the-variants.{Result}
-use Rattle.evaluation.specs.Decision.{trackIn, referenceAt, Selected, lacking, gears, selectedIn, selectionBy, finishBy, decideGears, decideWhole, decideBy, decisionOf}
-use Rattle.evaluation.specs.Demand.{referenceBy, referenceIn, chosenBy, chosenIn, figureBy, boundBy, figureOf, boundOf, CloseTo}
+use Rattle.evaluation.specs.Decision.{trackIn, referenceAt, Selected, lacking, gears, selectionBy, finishBy, decideGears, decideWhole, decideBy, decisionOf, sheetVehicle, sheetTrack, pmrIn, choiceIn}
+use Rattle.evaluation.specs.Demand.{referenceIn, chosenIn, figureBy, boundBy, figureOf, boundOf, CloseTo}
 use Rattle.evaluation.proofs.Selections.{Straddling, straddling}
+use Rattle.evaluation.proofs.Measured.{Measuring, measuring}
+
+-- its closing record
+abbrev pub closingRecord : List ℕ → Closing
+closingRecord s = closingIn (recordAt s (lastOf s))
 
 pub record Accepted (s : List ℕ) (o : Outcome) : Type 0 where
-  pub vehicle : Vehicle
-  pub closing : Closing
-  pub whole : examined s ≡ examination.Whole vehicle closing
-  pub low : 50 ≤ pmrOf (vehicle .power) (vehicle .mass)
-  pub high : pmrOf (vehicle .power) (vehicle .mass) ≤ 6000
+  pub sheet : WholeSheet s (sheetVehicle s) (closingRecord s)
+  pub low : 50 ≤ pmrIn s
+  pub high : pmrIn s ≤ 6000
   pub chosen-gears : Gears
   pub chosen-is : chosenIn s ≡ gears chosen-gears
   pub straddled : Straddled (referenceIn s) chosen-gears
-  pub is : o ≡ outcomeOf (chosenOf (referenceIn s) chosen-gears) (referenceIn s) (vehicle .limit)
+  pub measured : Measuring (sheetTrack s) (gears chosen-gears)
+  pub is : o ≡ outcomeOf (chosenOf (referenceIn s) chosen-gears) (referenceIn s) (sheetVehicle s .limit)
 
 -- what was selected, where it gives a result
 selected : (r : Reference) (limit : ℕ) (x : Selected) (o : Outcome) → Straddling r x → finishBy r limit (selectionBy r x) ≡ Result o → (g : Gears) × (x ≡ gears g) × Straddled r g × (o ≡ outcomeOf (chosenOf r g) r limit)
@@ -48,54 +53,50 @@ unfolding finishBy selectionBy
 selected r limit (lacking x) o h e = absurd (let z : _≡_ {A = ℕ} 0 1 = cc in omega arith)
 selected r limit (gears g) o h e = let same : outcomeOf (chosenOf r g) r limit ≡ o = cc in (g, refl, h, sym same)
 
-module _ (s : List ℕ) (v : Vehicle) (z : Closing) (o : Outcome) (w : examined s ≡ examination.Whole v z) where
-  q : ℕ
-  q = pmrOf (v .power) (v .mass)
+module _ (s : List ℕ) (o : Outcome) (w : WholeSheet s (sheetVehicle s) (closingRecord s)) where
+  rules : Selectable (aRef (pmrIn s)) (gearsOf (sheetTrack s)) (choiceIn s)
+  unfolding choiceIn
+  rules = sound (aRef (pmrIn s)) (aUrban (pmrIn s)) (gearsOf (sheetTrack s))
 
-  t : Track
-  t = trackIn s v z
+  between : Straddling (referenceIn s) (chosenIn s)
+  unfolding chosenIn referenceIn referenceAt
+  between = straddling (referenceIn s) s (sheetTrack s .background) (gearsOf (sheetTrack s)) (windowsOf (sheetTrack s)) (choiceIn s) rules
 
-  x : Selected
-  x = selectedIn s (trackIn s v z .background) (gearsOf (trackIn s v z)) (windowsOf (trackIn s v z)) (choiceOf (aRef (pmrOf (v .power) (v .mass))) (aUrban (pmrOf (v .power) (v .mass))) (gearsOf (trackIn s v z)))
+  windows : Measuring (sheetTrack s) (chosenIn s)
+  unfolding chosenIn sheetTrack trackIn
+  windows = measuring (sheetTrack s) (aRef (pmrIn s)) (choiceIn s) rules
 
-  from-gears : 50 ≤ q → q ≤ 6000 → finishBy (referenceAt q) (v .limit) (selectionBy (referenceAt q) x) ≡ Result o → Accepted s o
-  unfolding q t x chosenIn chosenBy referenceIn referenceBy referenceAt
+  from-gears : 50 ≤ pmrIn s → pmrIn s ≤ 6000 → finishBy (referenceIn s) (sheetVehicle s .limit) (selectionBy (referenceIn s) (chosenIn s)) ≡ Result o → Accepted s o
   from-gears lo hi e =
-      let r = selected (referenceAt q) (v .limit) x o (straddling (referenceAt q) s (t .background) (gearsOf t) (windowsOf t) (choiceOf (aRef q) (aUrban q) (gearsOf t)) (sound (aRef q) (aUrban q) (gearsOf t))) e in
-      let ref : referenceIn s ≡ referenceAt q = ap referenceBy w in
+      let r = selected (referenceIn s) (sheetVehicle s .limit) (chosenIn s) o between e in
       record {
-        vehicle = v;
-        closing = z;
-        whole = w;
+        sheet = w;
         low = lo;
         high = hi;
         chosen-gears = r .0;
-        chosen-is = ap (chosenBy s) w ∙ r .1;
-        straddled = subst (λ (y : Reference). Straddled y (r .0)) (sym ref) (r .2);
-        is = r .3 ∙ ap (λ (y : Reference). outcomeOf (chosenOf y (r .0)) y (v .limit)) (sym ref);
+        chosen-is = r .1;
+        straddled = r .2;
+        measured = subst (Measuring (sheetTrack s)) (r .1) windows;
+        is = r .3;
       }
 
   Then : Decision → Type 0
   Then d = d ≡ Result o → Accepted s o
 
-  from-whole : Then (decideWhole t q (v .limit))
-  unfolding Then decideWhole decideGears trackIn referenceAt q t x
+  from-whole : Then (decideWhole (sheetTrack s) (pmrIn s) (sheetVehicle s .limit))
+  unfolding Then decideWhole decideGears referenceIn referenceAt chosenIn choiceIn sheetTrack trackIn
   from-whole =
-      chosen Then (ltb q 50 || ltb 6000 q) _ _ (λ p e. absurd (let y : _≡_ {A = ℕ} 0 1 = cc in omega arith))
+      chosen Then (ltb (pmrIn s) 50 || ltb 6000 (pmrIn s)) _ _ (λ p e. absurd (let y : _≡_ {A = ℕ} 0 1 = cc in omega arith))
       (λ p.
-      let range = neither (ltb q 50) (ltb 6000 q) p in
-      chosen Then (not (anyRun (t .sheet))) _ _ (λ n e. absurd (let y : _≡_ {A = ℕ} 0 1 = cc in omega arith))
-      (λ n. chosen Then (ltb (lowestLacking t) 16) _ _ (λ l e. absurd (let y : _≡_ {A = ℕ} 0 1 = cc in omega arith))
-      (λ l. chosen Then (ltb (firstNotFalling (gearsOf t)) (length (gearsOf t) - 1)) _ _ (λ f e. absurd (let y : _≡_ {A = ℕ} 0 1 = cc in omega arith))
-      (λ f e. from-gears (ltb-false q 50 (range .0)) (ltb-false 6000 q (range .1)) e))))
-
-  whole-accepted : decideBy s (examination.Whole v z) ≡ Result o → Accepted s o
-  unfolding decideBy Then q t
-  whole-accepted = from-whole
+      let range = neither (ltb (pmrIn s) 50) (ltb 6000 (pmrIn s)) p in
+      chosen Then (not (anyRun s)) _ _ (λ n e. absurd (let y : _≡_ {A = ℕ} 0 1 = cc in omega arith))
+      (λ n. chosen Then (ltb (lowestLacking (sheetTrack s)) 16) _ _ (λ l e. absurd (let y : _≡_ {A = ℕ} 0 1 = cc in omega arith))
+      (λ l. chosen Then (ltb (firstNotFalling (gearsOf (sheetTrack s))) (length (gearsOf (sheetTrack s)) - 1)) _ _ (λ f e. absurd (let y : _≡_ {A = ℕ} 0 1 = cc in omega arith))
+      (λ f e. from-gears (ltb-false (pmrIn s) 50 (range .0)) (ltb-false 6000 (pmrIn s) (range .1)) e))))
 
 -- every accepted sheet is so
 pub accepted : (s : List ℕ) (o : Outcome) → decisionOf s ≡ Result o → Accepted s o
-unfolding decisionOf decideBy
+unfolding decisionOf decideBy sheetVehicle sheetTrack pmrIn Then
 accepted s o e = by (examined s) refl e
   where
     by : (x : Examination) → examined s ≡ x → decideBy s x ≡ Result o → Accepted s o
@@ -103,21 +104,19 @@ accepted s o e = by (examined s) refl e
     by examination.NoVehicle w k = absurd (let y : _≡_ {A = ℕ} 0 1 = cc in omega arith)
     by (examination.NoClosing n) w k = absurd (let y : _≡_ {A = ℕ} 0 1 = cc in omega arith)
     by (examination.BrokenRecord n) w k = absurd (let y : _≡_ {A = ℕ} 0 1 = cc in omega arith)
-    by (examination.Whole v z) w k = whole-accepted s v z o w k
-
-pub reference-of : (s : List ℕ) (v : Vehicle) (z : Closing) → examined s ≡ examination.Whole v z → referenceIn s ≡ referenceAt (pmrOf (v .power) (v .mass))
-unfolding referenceIn referenceBy
-reference-of s v z w = ap referenceBy w
+    by (examination.Whole v z) w k =
+        let sheet = whole s v z w in
+        let same : examination.Whole v z ≡ examination.Whole (sheetVehicle s) (closingRecord s) = ap₂ examination.Whole (sheet .vehicle-is) (sheet .closing-is) in
+        from-whole s o (whole s (sheetVehicle s) (closingRecord s) (w ∙ same)) (ap (decideBy s) (sym same) ∙ k)
 
 -- a_urban is at least 0.35
-positive : (n : ℕ) → 50 ≤ n → n ≤ 6000 → 0 < referenceAt n .«a_urban» .0
-unfolding referenceAt
-positive n lo hi = omega (arith, a-urban-the n lo hi .least)
+positive : (s : List ℕ) → 50 ≤ pmrIn s → pmrIn s ≤ 6000 → 0 < referenceIn s .«a_urban» .0
+unfolding referenceIn referenceAt
+positive s lo hi = omega (arith, a-urban-the (pmrIn s) lo hi .least)
 
 -- and its L_urban is close to the figure
 pub close-to : (s : List ℕ) (o : Outcome) → decisionOf s ≡ Result o → CloseTo s (o .«l_urban»)
 unfolding CloseTo figureOf boundOf figureBy boundBy reported
 close-to s o e =
     let a = accepted s o e in
-    let some : 0 < referenceIn s .«a_urban» .0 = rw (reference-of s (a .vehicle) (a .closing) (a .whole)) (positive (pmrOf (a .vehicle .power) (a .vehicle .mass)) (a .low) (a .high)) in
-    simp (a .chosen-is, ap (λ (x : Outcome). x .«l_urban») (a .is)) (close (referenceIn s) (a .chosen-gears) (a .vehicle .limit) some (a .straddled))
+    simp (a .chosen-is, ap (λ (x : Outcome). x .«l_urban») (a .is)) (close (referenceIn s) (a .chosen-gears) (sheetVehicle s .limit) (positive s (a .low) (a .high)) (a .straddled))

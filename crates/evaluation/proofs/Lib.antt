@@ -1,6 +1,6 @@
 pub mod Selections
 pub mod Decisions
+pub mod Measured
 pub mod Accepted
-pub mod Starred
-pub mod Causes
-pub mod Verdicts
+pub mod Alike
+pub mod Rising

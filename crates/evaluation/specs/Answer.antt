@@ -1,10 +1,11 @@
 -- What the caller gets: the answer, and every byte of the buffer (document 01, "Refusals and what remains").
 use Prim.Native.Nat.{ℕ}
 use mathlib.Core.Bool.{cond}
-use mathlib.Core.List.{List, _++_}
+use mathlib.Core.List.{List, [], _∷_, _++_}
 use lib.Dec.{ltb}
 use lib.ListN.{length, drop}
-use Rattle.urban.specs.Result.{resultBytes}
+use Rattle.urban.specs.declared.Outcome.{Outcome}
+use Rattle.urban.specs.Result.{flag, resultBytes}
 use Rattle.evaluation.specs.declared.Refusal.{Refusal}
 use Rattle.evaluation.specs.declared.Refusal.the-variants.{ShortBuffer, WrongSize, NoVehicle, NoClosing, BrokenRecord, PmrOutOfRange, NoRun, NoWindow, NotFalling, NoRule, NoConstantSpeed}
 use Rattle.evaluation.specs.declared.Decision.{Decision}
@@ -56,3 +57,11 @@ bufferBy (decision.Result o) b = resultBytes o ++ drop 32 b
 
 unfoldable pub bufferOf : List ℕ → List ℕ → List ℕ
 bufferOf s b = cond (ltb (length b) 32) b (bufferBy (decisionOf s) b)
+
+-- the result's 13 fields as they are printed: in record order, pass last
+unfoldable pub fieldsOf : Outcome → List ℕ
+fieldsOf o =
+    o .rule ∷ o .i ∷ o .j ∷ o .k ∷ o .kp
+    ∷ o .w .0 ∷ o .c .0 ∷ o .«l_urban»
+    ∷ o .«a_urban» .0 ∷ o .«a_ref» .0 ∷ o .pmr ∷ o .a .0
+    ∷ flag (o .pass) ∷ []

@@ -8,7 +8,9 @@ use Rattle.sheet.specs.declared.Vehicle.{Vehicle}
 use Rattle.sheet.specs.declared.Closing.{Closing}
 use Rattle.sheet.specs.declared.Examination.{Examination}
 use Rattle.sheet.specs.declared.Examination.the-variants as examination
-use Rattle.sheet.specs.Examining.{examined}
+use Rattle.sheet.specs.Records.{recordAt}
+use Rattle.sheet.specs.Layout.{vehicleIn, closingIn}
+use Rattle.sheet.specs.Examining.{lastOf, examined}
 use Rattle.reference.specs.Reference.{pmrOf, aUrban, aRef}
 use Rattle.window.specs.declared.Four.{Four}
 use Rattle.window.specs.declared.Window.{Window}
@@ -122,3 +124,18 @@ decideBy s (examination.Whole v z) = decideWhole (trackIn s v z) (pmrOf (v .powe
 
 unfoldable pub decisionOf : List ℕ → Decision
 decisionOf s = decideBy s (examined s)
+
+-- ---- what the rules decide on, of the bytes themselves
+
+-- The first and the last record, read as a vehicle and a closing record. In a whole sheet that is what they are.
+unfoldable pub sheetVehicle : List ℕ → Vehicle
+sheetVehicle s = vehicleIn (recordAt s 0)
+
+unfoldable pub sheetTrack : List ℕ → Track
+sheetTrack s = trackIn s (sheetVehicle s) (closingIn (recordAt s (lastOf s)))
+
+unfoldable pub pmrIn : List ℕ → ℕ
+pmrIn s = pmrOf (sheetVehicle s .power) (sheetVehicle s .mass)
+
+unfoldable pub choiceIn : List ℕ → Choice
+choiceIn s = choiceOf (aRef (pmrIn s)) (aUrban (pmrIn s)) (gearsOf (sheetTrack s))

@@ -2,6 +2,3 @@ pub mod Decision
 pub mod Sound
 pub mod Answer
 pub mod Demand
-pub mod Starred
-pub mod Causes
-pub mod Verdict

@@ -17,7 +17,7 @@ use window::Four;
 use window::Window;
 ghost use mathlib.Core.Path.{_≡_};
 ghost use mathlib.Core.Bool.{cond};
-ghost use Prim.Native.Nat.{_+_, _≤_, _<_, max};
+ghost use Prim.Native.Nat.{_+_, _≤_, _<_};
 ghost use lib.Dec.{eqb};
 ghost use lib.ListN.{length, take};
 ghost use Rattle.sheet.specs.Examining.{examined};
@@ -29,7 +29,7 @@ ghost use Rattle.sheet.specs.declared.Examination.the-variants.{Whole};
 ghost use Rattle.evaluation.specs.Sound.{Weighable};
 ghost use Rattle.gears.proofs.Choices.{Selectable};
 ghost use Rattle.evaluation.specs.Answer.{numberOf, placeOf, answerOf, bufferOf};
-ghost use Rattle.evaluation.specs.Demand.{CloseTo};
+ghost use Rattle.evaluation.specs.Demand.{CloseTo, RisesFrom};
 ghost use Rattle.units.specs.Bytes.{number};
 
 // The causes of a refusal, in the order in which they are checked.
@@ -336,6 +336,7 @@ pub fn evaluate(sheet: &[u8], result: &mut [u8]) -> Answer
     ensures answer { λ r. ⌜ r ≡ answerOf (now (sheet .entry)) (length (now (result .entry))) ⌝ }
     ensures buffer { λ r. ⌜ now (result .exit) ≡ bufferOf (now (sheet .entry)) (now (result .entry)) ⌝ }
     ensures close { λ r. ⌜ (r ≡ Answer.Accepted → CloseTo (now (sheet .entry)) (number (now (result .exit)) 10 2)) ⌝ }
+    ensures rising { λ r. ⌜ (r ≡ Answer.Accepted → RisesFrom (now (sheet .entry)) (number (now (result .exit)) 10 2)) ⌝ }
 {
     if result.len() < 32 {
         return Answer::Refused(Refusal::ShortBuffer);

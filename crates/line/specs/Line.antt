@@ -3,9 +3,8 @@ use Prim.Native.Nat.{ℕ, zero, suc, _+_, _/_, _%_}
 use mathlib.Core.Bool.{cond}
 use mathlib.Core.List.{List, [], _∷_, _++_}
 use lib.Dec.{ltb}
-use Rattle.urban.specs.declared.Outcome.{Outcome}
-use Rattle.urban.specs.Result.{flag, outcomeIn}
-use Rattle.evaluation.specs.Answer.{numberOf, placeOf}
+use Rattle.urban.specs.Result.{outcomeIn}
+use Rattle.evaluation.specs.Answer.{numberOf, placeOf, fieldsOf}
 use Rattle.evaluation.specs.declared.Answer.{Answer}
 use Rattle.evaluation.specs.declared.Answer.the-variants.{Accepted, Refused}
 
@@ -22,14 +21,6 @@ decimalOf n = digitsOf 20 n
 unfoldable pub spaced : List ℕ → List ℕ → List ℕ
 spaced s [] = s
 spaced s (n ∷ ns) = spaced ((s ++ (32 ∷ [])) ++ decimalOf n) ns
-
--- the result's 13 fields, pass last
-unfoldable pub fieldsOf : Outcome → List ℕ
-fieldsOf o =
-    o .rule ∷ o .i ∷ o .j ∷ o .k ∷ o .kp
-    ∷ o .w .0 ∷ o .c .0 ∷ o .«l_urban»
-    ∷ o .«a_urban» .0 ∷ o .«a_ref» .0 ∷ o .pmr ∷ o .a .0
-    ∷ flag (o .pass) ∷ []
 
 -- "OK"
 unfoldable pub acceptedWord : List ℕ

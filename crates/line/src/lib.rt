@@ -7,8 +7,8 @@ ghost use mathlib.Core.List.{[], _∷_, _++_};
 ghost use Prim.Native.Nat.{_+_, _≤_, _<_};
 ghost use lib.ListN.{length, take};
 ghost use Rattle.urban.specs.Result.{flag};
-ghost use Rattle.evaluation.specs.Answer.{numberOf, placeOf};
-ghost use Rattle.line.specs.Line.{digitsOf, decimalOf, spaced, fieldsOf, acceptedWord, refusedWord, lineOf};
+ghost use Rattle.evaluation.specs.Answer.{numberOf, placeOf, fieldsOf};
+ghost use Rattle.line.specs.Line.{digitsOf, decimalOf, spaced, acceptedWord, refusedWord, lineOf};
 
 // The byte b at `at`, and the place after it.
 fn put(b: u8, out: &mut [u8], at: usize) -> usize

@@ -45,6 +45,7 @@ inside low high x t = (leb→le low x (and-l (leb low x) (leb x high) t), leb→
 
 pub record VehicleRanges (r : List ℕ) : Type 0 where
   pub long : length r ≡ 32
+  pub kind : byte r 0 ≡ 1
   pub line : byte r 2 ≤ 1
   pub power : (10 ≤ word r 4) × (word r 4 ≤ 20000)
   pub mass : (300 ≤ word r 6) × (word r 6 ≤ 5000)
@@ -57,6 +58,7 @@ unfolding vehicleGood vehicleTests
 vehicle-ranges r e =
     record {
       long = eqb→eq (length r) 32 (test 0);
+      kind = eqb→eq (byte r 0) 1 (test 1);
       line = inside 0 1 (byte r 2) (test 3) .1;
       power = inside 10 20000 (word r 4) (test 5);
       mass = inside 300 5000 (word r 6) (test 6);
@@ -95,11 +97,12 @@ run-ranges r e =
 
 pub record ClosingRanges (r : List ℕ) : Type 0 where
   pub long : length r ≡ 32
+  pub kind : byte r 0 ≡ 9
   pub background : word r 4 ≤ 1000
 
 pub closing-ranges : (r : List ℕ) → closingGood r ≡ true → ClosingRanges r
 unfolding closingGood closingTests
-closing-ranges r e = record { long = eqb→eq (length r) 32 (test 0); background = inside 0 1000 (word r 4) (test 3) .1 }
+closing-ranges r e = record { long = eqb→eq (length r) 32 (test 0); kind = eqb→eq (byte r 0) 9 (test 1); background = inside 0 1000 (word r 4) (test 3) .1 }
   where
     test : (k : ℕ) → T (getD (closingTests r) k true)
     test = each (closingTests r) (rw e tt)

@@ -10,8 +10,9 @@ use Rattle.units.specs.Bytes.{number}
 use Rattle.urban.proofs.Results.{at-ten}
 use Rattle.evaluation.specs.declared.Refusal.{Refusal}
 use Rattle.evaluation.specs.declared.Answer.the-variants.{Accepted, Refused}
-use Rattle.evaluation.specs.Demand.{CloseTo}
+use Rattle.evaluation.specs.Demand.{CloseTo, RisesFrom}
 use Rattle.evaluation.proofs.Accepted.{close-to}
+use Rattle.evaluation.proofs.Rising.{rises-from}
 use Rattle.evaluation.proofs.evaluate.Statement.{statement}
 use Rattle.evaluation.proofs.evaluate.Tie as tie
 
@@ -20,7 +21,7 @@ not-accepted e = let z : _≡_ {A = ℕ} 0 1 = cc in omega arith
 
 returns : tie.Need-returns
 unfolding answerOf bufferOf
-returns c = (simp (lt-ltb _ _ (c .if1 .taken)), (simp (lt-ltb _ _ (c .if1 .taken)), λ e. absurd (not-accepted e)))
+returns c = (simp (lt-ltb _ _ (c .if1 .taken)), (simp (lt-ltb _ _ (c .if1 .taken)), (λ e. absurd (not-accepted e), λ e. absurd (not-accepted e))))
 
 decide-requires : tie.Need-decide-requires
 decide-requires c κs = search needs
@@ -39,7 +40,7 @@ unfolding answerOf bufferOf answerBy bufferBy
 returns-2 c =
     let e = c .before .before .before in
     let refused = sym (e .decide .ensures) ∙ c .before .r .given .1 in
-    (simp (le-ltb _ _ (e .before .if1 .left), refused), (simp (le-ltb _ _ (e .before .if1 .left), refused), λ a. absurd (not-accepted a)))
+    (simp (le-ltb _ _ (e .before .if1 .left), refused), (simp (le-ltb _ _ (e .before .if1 .left), refused), (λ a. absurd (not-accepted a), λ a. absurd (not-accepted a))))
 
 same-length : tie.Need-same-length
 same-length c = search needs
@@ -51,7 +52,7 @@ returns-3 c =
     let accepted = sym (e .decide .ensures) ∙ c .before .before .before .before .before .o .given .1 in
     let written = c .before .before .write .ensures in
     let level = ap (λ (b : List ℕ). number b 10 2) written ∙ at-ten (c .before .before .before .before .before .o .given .0 .0) _ in
-    (simp (le-ltb _ _ (e .before .if1 .left), accepted), (simp (le-ltb _ _ (e .before .if1 .left), accepted) written, λ a. subst (CloseTo _) (sym level) (close-to _ _ accepted)))
+    (simp (le-ltb _ _ (e .before .if1 .left), accepted), (simp (le-ltb _ _ (e .before .if1 .left), accepted) written, (λ a. subst (CloseTo _) (sym level) (close-to _ _ accepted), λ a. subst (RisesFrom _) (sym level) (rises-from _ _ accepted))))
 
 pub evaluate-spec : {M : Type 1} → statement M
 evaluate-spec =

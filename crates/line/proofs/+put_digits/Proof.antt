@@ -1,6 +1,6 @@
 -- `line::put_digits` meets its contract: `most` falls at each call of itself. Assumes nothing.
 use Prim.Native.Nat.{ℕ, _<_, _+_, _-_, _/_, _%_}
-use mathlib.Core.Path.{_≡_, refl, sym, ap, _∙_}
+use mathlib.Core.Path.{sym, ap, _∙_}
 use mathlib.Core.List.{List, [], _∷_, _++_, append-assoc}
 use native.Mathlib.Omega.{arith}
 use lib.ListN.{take}

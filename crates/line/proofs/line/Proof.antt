@@ -1,12 +1,13 @@
 -- `line::line` meets its contract. Assumes nothing.
 use borrow.Author.Needs.{needs}
-use mathlib.Core.Path.{refl, sym, ap, _∙_}
+use mathlib.Core.Path.{sym, ap, _∙_}
 use mathlib.Core.List.{List, [], _∷_, _++_}
 use Prim.Native.Nat.{ℕ}
 use native.Mathlib.Omega.{arith}
 use Rattle.urban.specs.declared.Outcome.{Outcome}
 use Rattle.evaluation.specs.declared.Answer.{Answer}
-use Rattle.line.specs.Line.{digitsOf, decimalOf, spaced, fieldsOf, acceptedWord, refusedWord, lineOf}
+use Rattle.evaluation.specs.Answer.{fieldsOf}
+use Rattle.line.specs.Line.{spaced, acceptedWord, lineOf}
 use Rattle.line.proofs.line.Statement.{statement}
 use Rattle.line.proofs.line.Tie as tie
 use Rattle.line.proofs.line.Reads as reads

@@ -1,11 +1,11 @@
 -- `line::put_refusal` meets its contract. Assumes nothing.
 use borrow.Author.Needs.{needs}
-use mathlib.Core.Path.{refl, ap, _∙_}
+use mathlib.Core.Path.{ap, _∙_}
 use mathlib.Core.List.{List, [], _∷_, _++_}
 use Prim.Native.Nat.{ℕ}
 use native.Mathlib.Omega.{arith}
 use Rattle.evaluation.specs.Answer.{numberOf}
-use Rattle.line.specs.Line.{digitsOf, decimalOf, spaced, fieldsOf, acceptedWord, refusedWord, lineOf}
+use Rattle.line.specs.Line.{decimalOf, spaced, refusedWord}
 use Rattle.line.proofs.put_refusal.Statement.{statement}
 use Rattle.line.proofs.put_refusal.Tie as tie
 use Rattle.line.proofs.put_refusal.Reads as reads

@@ -1,10 +1,10 @@
 -- `line::put_refused` meets its contract. Assumes nothing.
 use borrow.Author.Needs.{needs}
-use mathlib.Core.Path.{refl, ap, _∙_}
+use mathlib.Core.Path.{ap, _∙_}
 use mathlib.Core.List.{List, [], _∷_, _++_}
 use Prim.Native.Nat.{ℕ}
 use native.Mathlib.Omega.{arith}
-use Rattle.line.specs.Line.{digitsOf, decimalOf, spaced, fieldsOf, acceptedWord, refusedWord, lineOf}
+use Rattle.line.specs.Line.{refusedWord}
 use Rattle.line.proofs.put_refused.Statement.{statement}
 use Rattle.line.proofs.put_refused.Tie as tie
 use Rattle.line.proofs.put_refused.Reads as reads

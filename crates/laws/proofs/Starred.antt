@@ -27,8 +27,10 @@ use Rattle.session.specs.Table.{some, accelerates, anyRun, hasRun, windowOf, wi
 use Rattle.urban.specs.Demand.{chosenOf}
 use Rattle.urban.specs.Urban.{partPower, lUrbanOf, outcomeOf}
 use Rattle.urban.specs.Weighing.{weighedLevel, basisOf}
-use Rattle.evaluation.specs.Decision.{trackIn, referenceAt, noFour, gearAt, windowAt, weighedGear, selectOne, selectPair, selectedIn, selectionBy, finishBy, decideGears, decideWhole, decideBy, decisionOf}
-use Rattle.evaluation.specs.Starred.{Example, gives, shouldGive, Holds, starred}
+use Rattle.evaluation.specs.Decision.{trackIn, referenceAt, noFour, gearAt, windowAt, weighedGear, selectOne, selectPair, selectedIn, selectionBy, finishBy, decideGears, decideWhole, decideBy, decisionOf, sheetVehicle, sheetTrack, pmrIn, choiceIn}
+use Rattle.evaluation.specs.Answer.{fieldsOf}
+use Rattle.evaluation.specs.Demand.{chosenIn, runsOf, chosenRunsBy, chosenRuns}
+use Rattle.laws.specs.Starred.{Example, gives, shouldGive, Holds, starred, workedSheet}
 
 same : List ℕ → List ℕ → Bool
 same [] [] = true
@@ -47,7 +49,7 @@ test : Example → Bool
 test e = same (gives e) (shouldGive e)
 
 every-test : T (allOf (map test starred))
-unfolding starred same test number lowest rounded corrections correctionOf correctedSide sideOf inRange tenthsOf readingOf ofBits pmrOf between aUrban aRef records recordAt zeros vehicleTests vehicleGood vehicleIn runTests runGood runIn readingFrom closingTests closingGood closingIn wrongSize noVehicle noClosing goodAt lowestBroken examined bothSides validOf candidateOf restFrom restOf spanned fitting window·nobody fourAt firstPlace firstWindow largerSum accelerationOf meanOf gears·nobody a firstNotFalling apart near nearer nearest pastLast jOf firstBelow oneAt acrossOf choiceOf kOf some accelerates anyRun hasRun windowOf within gearAcceleration byWindow stateOf lowestLacking remainingFrom remaining gearsOf windowsOf chosenOf partPower lUrbanOf outcomeOf weighedLevel basisOf trackIn referenceAt noFour gearAt windowAt weighedGear selectOne selectPair selectedIn selectionBy finishBy decideGears decideWhole decideBy decisionOf
+unfolding starred same test number lowest rounded corrections correctionOf correctedSide sideOf inRange tenthsOf readingOf ofBits pmrOf between aUrban aRef records recordAt zeros vehicleTests vehicleGood vehicleIn runTests runGood runIn readingFrom closingTests closingGood closingIn wrongSize noVehicle noClosing goodAt lowestBroken examined bothSides validOf candidateOf restFrom restOf spanned fitting window·nobody fourAt firstPlace firstWindow largerSum accelerationOf meanOf gears·nobody a firstNotFalling apart near nearer nearest pastLast jOf firstBelow oneAt acrossOf choiceOf kOf some accelerates anyRun hasRun windowOf within gearAcceleration byWindow stateOf lowestLacking remainingFrom remaining gearsOf windowsOf chosenOf partPower lUrbanOf outcomeOf weighedLevel basisOf trackIn referenceAt noFour gearAt windowAt weighedGear selectOne selectPair selectedIn selectionBy finishBy decideGears decideWhole decideBy decisionOf fieldsOf
 every-test = tt
 
 tested : (none : Example) (es : List Example) → T (allOf (map test es)) → (n : ℕ) → n < length es → Holds (getD es n none)
@@ -59,3 +61,8 @@ tested none (e ∷ es) t (suc n) h = tested none es (and-r (test e) (allOf (map 
 -- every example of the table holds
 pub every-starred : (none : Example) (n : ℕ) → n < length starred → Holds (getD starred n none)
 every-starred none = tested none starred every-test
+
+-- The chosen runs of the worked sheet: records 5 to 8 and 13 to 16 of gear 3, 9 to 12 and 17 to 20 of gear 4.
+pub worked-runs : chosenRuns workedSheet ≡ 5 ∷ 6 ∷ 7 ∷ 8 ∷ 13 ∷ 14 ∷ 15 ∷ 16 ∷ 9 ∷ 10 ∷ 11 ∷ 12 ∷ 17 ∷ 18 ∷ 19 ∷ 20 ∷ []
+unfolding same number lowest rounded corrections correctionOf correctedSide sideOf inRange tenthsOf readingOf ofBits pmrOf between aUrban aRef records recordAt zeros vehicleTests vehicleGood vehicleIn runTests runGood runIn readingFrom closingTests closingGood closingIn wrongSize noVehicle noClosing goodAt lowestBroken examined bothSides validOf candidateOf restFrom restOf spanned fitting window·nobody fourAt firstPlace firstWindow largerSum accelerationOf meanOf gears·nobody a firstNotFalling apart near nearer nearest pastLast jOf firstBelow oneAt acrossOf choiceOf kOf some accelerates anyRun hasRun windowOf within gearAcceleration byWindow stateOf lowestLacking remainingFrom remaining gearsOf windowsOf chosenOf partPower lUrbanOf outcomeOf weighedLevel basisOf trackIn referenceAt noFour gearAt windowAt weighedGear selectOne selectPair selectedIn sheetVehicle sheetTrack pmrIn choiceIn chosenIn runsOf chosenRunsBy chosenRuns
+worked-runs = same→≡ _ _ tt

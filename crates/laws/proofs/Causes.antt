@@ -23,14 +23,14 @@ use Rattle.gears.specs.declared.Choice.the-variants as choice
 use Rattle.session.specs.Table.{Track, anyRun, lowestLacking, gearsOf, windowsOf}
 use Rattle.urban.specs.declared.Reference.{Reference}
 use Rattle.gears.specs.Rules.{firstNotFalling}
 use Rattle.evaluation.specs.declared.Refusal.{Refusal}
 use Rattle.evaluation.specs.declared.Refusal.the-variants as refusal
 use Rattle.evaluation.specs.declared.Decision.{Decision}
 use Rattle.evaluation.specs.declared.Decision.the-variants as decision
 use Rattle.evaluation.specs.declared.Answer.the-variants as answer
 use Rattle.evaluation.specs.Answer.{numberOf, answerBy, answerOf}
-use Rattle.evaluation.specs.Decision.{trackIn, referenceAt, selectOne, selectPair, selectedIn, selectionBy, finishBy, decideGears, decideWhole, decideBy, decisionOf}
-use Rattle.evaluation.specs.Causes.{vehicleOf, trackOf, pmrIn, choiceIn, undecided, missing, unmeasuredAt, unmeasured, causes, refusalNumber, First}
+use Rattle.evaluation.specs.Decision.{trackIn, referenceAt, selectOne, selectPair, selectedIn, selectionBy, finishBy, decideGears, decideWhole, decideBy, decisionOf, sheetVehicle, sheetTrack, pmrIn, choiceIn}
+use Rattle.laws.specs.Causes.{undecided, missing, unmeasuredAt, unmeasured, causes, refusalNumber, First}
 
 -- ---- the first test that holds
 
@@ -116,12 +116,12 @@ module _ (r : Reference) (limit : ℕ) where
   after-choice t choice.Nothing = refl
 
 module _ (s : List ℕ) (size : ℕ) where
-  whole : decided (decideWhole (trackOf s) (pmrIn s) (vehicleOf s .limit)) ≡ firstFrom 6 (drop 5 (causes s size))
-  unfolding decideWhole decideGears referenceAt trackIn trackOf causes choiceIn firstFrom
+  whole : decided (decideWhole (sheetTrack s) (pmrIn s) (sheetVehicle s .limit)) ≡ firstFrom 6 (drop 5 (causes s size))
+  unfolding decideWhole decideGears referenceAt trackIn sheetTrack causes choiceIn firstFrom
   whole =
       step decided (ltb (pmrIn s) 50 || ltb 6000 (pmrIn s)) _ _ 6 _ (of-refusal refusal.PmrOutOfRange)
-      (either decided (not (anyRun s)) (ltb (lowestLacking (trackOf s)) 16) _ _ _ 7 _ (of-refusal refusal.NoRun) (of-refusal (refusal.NoWindow _))
-      (step decided (ltb (firstNotFalling (gearsOf (trackOf s))) (length (gearsOf (trackOf s)) - 1)) _ _ 8 _ (of-refusal (refusal.NotFalling _)) (after-choice (referenceAt (pmrIn s)) (vehicleOf s .limit) (trackOf s) (choiceIn s))))
+      (either decided (not (anyRun s)) (ltb (lowestLacking (sheetTrack s)) 16) _ _ _ 7 _ (of-refusal refusal.NoRun) (of-refusal (refusal.NoWindow _))
+      (step decided (ltb (firstNotFalling (gearsOf (sheetTrack s))) (length (gearsOf (sheetTrack s)) - 1)) _ _ 8 _ (of-refusal (refusal.NotFalling _)) (after-choice (referenceAt (pmrIn s)) (sheetVehicle s .limit) (sheetTrack s) (choiceIn s))))
 
   of : Examination → ℕ
   of e = decided (decideBy s e)
@@ -143,7 +143,7 @@ module _ (s : List ℕ) (size : ℕ) where
   of-broken n = of-refusal (refusal.BrokenRecord n)
 
   of-whole : of (examination.Whole (vehicleIn (recordAt s 0)) (closingIn (recordAt s (lastOf s)))) ≡ firstFrom 6 (drop 5 (causes s size))
-  unfolding of decideBy trackOf vehicleOf pmrIn
+  unfolding of decideBy sheetTrack sheetVehicle pmrIn
   of-whole = whole
 
   of-examined : of (examined s) ≡ firstFrom 2 (drop 1 (causes s size))

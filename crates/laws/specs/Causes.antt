@@ -5,35 +5,18 @@ use mathlib.Core.Bool.{Bool, true, false, not, _||_}
 use mathlib.Core.List.{List, [], _∷_}
 use lib.Dec.{ltb}
 use lib.ListN.{length, getD}
-use Rattle.sheet.specs.declared.Vehicle.{Vehicle}
-use Rattle.sheet.specs.Records.{records, recordAt}
-use Rattle.sheet.specs.Layout.{vehicleIn, closingIn}
-use Rattle.sheet.specs.Examining.{lastOf, wrongSize, noVehicle, noClosing, lowestBroken}
-use Rattle.reference.specs.Reference.{pmrOf, aUrban, aRef}
+use Rattle.sheet.specs.Records.{records}
+use Rattle.sheet.specs.Examining.{wrongSize, noVehicle, noClosing, lowestBroken}
 use Rattle.window.specs.declared.Window.{Window}
 use Rattle.window.specs.declared.Window.the-variants as window
 use Rattle.gears.specs.declared.Choice.{Choice}
 use Rattle.gears.specs.declared.Choice.the-variants as choice
-use Rattle.gears.specs.Rules.{firstNotFalling, choiceOf}
+use Rattle.gears.specs.Rules.{firstNotFalling}
 use Rattle.session.specs.Table.{Track, anyRun, windowOf, lowestLacking, gearsOf}
 use Rattle.evaluation.specs.declared.Answer.{Answer}
 use Rattle.evaluation.specs.declared.Answer.the-variants.{Accepted, Refused}
 use Rattle.evaluation.specs.Answer.{numberOf}
-use Rattle.evaluation.specs.Decision.{trackIn, gearAt}
-
--- The first and the last record, read as a vehicle and a closing record. Where no cause of rows 2 to 5 holds, that is what they are.
-unfoldable pub vehicleOf : List ℕ → Vehicle
-vehicleOf s = vehicleIn (recordAt s 0)
-
-unfoldable pub trackOf : List ℕ → Track
-trackOf s = trackIn s (vehicleOf s) (closingIn (recordAt s (lastOf s)))
-
-unfoldable pub pmrIn : List ℕ → ℕ
-pmrIn s = pmrOf (vehicleOf s .power) (vehicleOf s .mass)
-
--- what the rules decide on
-unfoldable pub choiceIn : List ℕ → Choice
-choiceIn s = choiceOf (aRef (pmrIn s)) (aUrban (pmrIn s)) (gearsOf (trackOf s))
+use Rattle.evaluation.specs.Decision.{gearAt, sheetTrack, pmrIn, choiceIn}
 
 -- no gear remains, or no rule applies
 abbrev pub undecided : Choice → Bool
@@ -65,12 +48,12 @@ causes s size =
     -- 6: PMR under 5.0 or over 600.0
     ∷ (ltb (pmrIn s) 50 || ltb 6000 (pmrIn s))
     -- 7: no acceleration run, or a gear with one and no window
-    ∷ (not (anyRun s) || ltb (lowestLacking (trackOf s)) 16)
+    ∷ (not (anyRun s) || ltb (lowestLacking (sheetTrack s)) 16)
     -- 8: neighbours that do not fall
-    ∷ ltb (firstNotFalling (gearsOf (trackOf s))) (length (gearsOf (trackOf s)) - 1)
+    ∷ ltb (firstNotFalling (gearsOf (sheetTrack s))) (length (gearsOf (sheetTrack s)) - 1)
     -- 9 and 10
     ∷ undecided (choiceIn s)
-    ∷ unmeasured (trackOf s) (choiceIn s)
+    ∷ unmeasured (sheetTrack s) (choiceIn s)
     ∷ []
 
 -- the number of a refusal; 0 for an accepted sheet

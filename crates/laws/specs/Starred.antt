@@ -11,20 +11,18 @@ use Rattle.level.specs.Level.{tenthsOf}
 use Rattle.level.specs.Correction.{correctedSide}
 use Rattle.reference.specs.Reference.{aUrban, aRef}
 use Rattle.window.specs.declared.ValidRun.{ValidRun}
-use Rattle.window.specs.declared.Window.{Window}
-use Rattle.window.specs.declared.Window.the-variants as window
 use Rattle.window.specs.Windows.{firstWindow}
 use Rattle.gears.specs.declared.Gear.{Gear}
 use Rattle.gears.specs.declared.Choice.{Choice}
 use Rattle.gears.specs.declared.Choice.the-variants as choice
 use Rattle.gears.specs.Acceleration.{accelerationOf}
 use Rattle.gears.specs.Rules.{choiceOf}
-use Rattle.urban.specs.Result.{flag}
 use Rattle.urban.specs.Urban.{lUrbanOf}
 use Rattle.evaluation.specs.declared.Decision.{Decision}
 use Rattle.evaluation.specs.declared.Decision.the-variants as decision
-use Rattle.evaluation.specs.Answer.{numberOf, placeOf}
+use Rattle.evaluation.specs.Answer.{numberOf, placeOf, fieldsOf}
 use Rattle.evaluation.specs.Decision.{decisionOf}
+use Rattle.evaluation.specs.Demand.{numbersIn}
 
 pub data Example : Type 0 where
   -- the pattern of a float; its tenths
@@ -56,10 +54,6 @@ runsFrom n [] = []
 runsFrom n (l ∷ levels) =
     record { left = record { 0 = l }; right = record { 0 = l }; start = 0; end = 0; engine = 0; number = n } ∷ runsFrom (n + 1) levels
 
-abbrev pub windowGives : Window → List ℕ
-windowGives (window.Runs f) = f .a .number ∷ f .b .number ∷ f .c .number ∷ f .d .number ∷ []
-windowGives window.Nothing = []
-
 abbrev pub gearsWith : List ℕ → List Gear
 gearsWith = map (λ x. record { number = 0; acceleration = record { 0 = x } })
 
@@ -68,29 +62,15 @@ choiceGives (choice.One rule p) = rule ∷ (p + 1) ∷ []
 choiceGives (choice.Pair rule p) = rule ∷ (p + 1) ∷ (p + 2) ∷ []
 choiceGives choice.Nothing = []
 
--- the fields of a result in the program's order, pass last; of a refusal its number and place
+-- the fields of a result as they are printed; of a refusal its number and place
 abbrev pub decisionGives : Decision → List ℕ
 decisionGives (decision.Refused r) = numberOf r ∷ placeOf r ∷ []
-decisionGives (decision.Result o) =
-    o .rule
-    ∷ o .i
-    ∷ o .j
-    ∷ o .k
-    ∷ o .kp
-    ∷ o .w .0
-    ∷ o .c .0
-    ∷ o .«l_urban»
-    ∷ o .«a_urban» .0
-    ∷ o .«a_ref» .0
-    ∷ o .pmr
-    ∷ o .a .0
-    ∷ flag (o .pass)
-    ∷ []
+decisionGives (decision.Result o) = fieldsOf o
 
 abbrev pub gives : Example → List ℕ
 gives (tenths pattern n) = tenthsOf (ofBits binary32 pattern) ∷ []
 gives (corrected level background n) = sideGives (correctedSide level background)
-gives (windowed levels numbers) = windowGives (firstWindow (runsFrom 1 levels))
+gives (windowed levels numbers) = numbersIn (firstWindow (runsFrom 1 levels))
 gives (referred q u r) = aUrban q ∷ aRef q ∷ []
 gives (accelerated path start end n) = accelerationOf start end path ∷ []
 gives (chosen R u accelerations numbers) = choiceGives (choiceOf R u (gearsWith accelerations))

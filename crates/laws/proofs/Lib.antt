@@ -1,0 +1,3 @@
+pub mod Causes
+pub mod Verdicts
+pub mod Starred

@@ -1,0 +1,3 @@
+pub mod Causes
+pub mod Verdict
+pub mod Starred
