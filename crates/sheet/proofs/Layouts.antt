@@ -3,12 +3,12 @@ use mathlib.Core.Path.{_≡_, refl}
 use mathlib.Core.List.{List}
 use Prim.Native.Nat.{ℕ, suc, _+_, _-_, _≤_, _<_}
 use native.Mathlib.Omega.{arith}
-use mathlib.Core.Bool.{true, false}
-use lib.Dec.{T, leb, leb→le, eqb→eq}
+use mathlib.Core.Bool.{Bool, true, false, _&&_}
+use lib.Dec.{T, leb, eqb, leb→le, eqb→eq}
 use lib.Ieee.Fits.{and-l, and-r}
 use lib.ListN.{length, getD}
 use lib.Ieee.{binary32, ofBits, nanBits}
-use borrow.Author.Tests.{eq-eqb, ne-eqb}
+use borrow.Author.Tests.{eq-eqb}
 use Rattle.units.specs.Bytes.{number}
 use Rattle.units.proofs.Tests.{each}
 use Rattle.level.specs.declared.Reading.{Reading}
@@ -22,21 +22,21 @@ use Rattle.sheet.specs.Layout.{byte, word, within, zeros, readable, read
 
 -- ---- the zero bytes from i to before `end`, one by one
 
-module _ (r : List ℕ) (i end : ℕ) (h : i < end) where
-  one-more : end - i ≡ suc (end - (i + 1))
-  one-more = omega arith
-
-  pub zeros-stop : (byte r i ≡ 0 → ⊥) → zeros r i (end - i) ≡ false
-  unfolding zeros
-  zeros-stop n = rw one-more (simp (ne-eqb (byte r i) 0 n))
-
-  pub zeros-next : byte r i ≡ 0 → zeros r i (end - i) ≡ zeros r (i + 1) (end - (i + 1))
-  unfolding zeros
-  zeros-next e = rw one-more (simp (eq-eqb (byte r i) 0 e))
-
-pub zeros-end : (r : List ℕ) (i : ℕ) → zeros r i (i - i) ≡ true
+pub zeros-next : (r : List ℕ) (i end : ℕ) (ok : Bool) → i < end → (ok && zeros r i (end - i)) ≡ ((ok && eqb (byte r i) 0) && zeros r (i + 1) (end - (i + 1)))
 unfolding zeros
-zeros-end r i = let none : i - i ≡ 0 = omega arith in rw none
+zeros-next r i end ok h = let more : end - i ≡ suc (end - (i + 1)) = omega arith in rw more (by ok)
+  where
+    by : (b : Bool) → (b && zeros r i (suc (end - (i + 1)))) ≡ ((b && eqb (byte r i) 0) && zeros r (i + 1) (end - (i + 1)))
+    by true = refl
+    by false = refl
+
+pub zeros-end : (r : List ℕ) (i : ℕ) (ok : Bool) → (ok && zeros r i (i - i)) ≡ ok
+unfolding zeros
+zeros-end r i ok = let none : i - i ≡ 0 = omega arith in rw none (by ok)
+  where
+    by : (b : Bool) → (b && true) ≡ b
+    by true = refl
+    by false = refl
 
 -- ---- what the tests of a good record say, number by number
 

@@ -138,19 +138,18 @@ fn word_within(r: &[u8], at: usize, low: u16, high: u16) -> bool
     (low <= x) & (x <= high)
 }
 
-// Whether the bytes from `at` to before `end` are zero.
+// Whether the bytes from `at` to before `end` are zero. All are read, so that the loop has no branch in it.
 fn blank(r: &[u8], at: usize, end: usize) -> bool
     requires { ⌜ (at ≤ end) × (end ≤ length (now r)) ⌝ }
     ensures { λ ok. ⌜ ok ≡ zeros (now (r .entry)) at (end - at) ⌝ }
 {
+    let mut ok = true;
     let mut i = at;
     while i < end {
-        if r[i] != 0 {
-            return false;
-        }
+        ok = ok & (r[i] == 0);
         i += 1;
     }
-    true
+    ok
 }
 
 fn vehicle_good(r: &[u8]) -> bool

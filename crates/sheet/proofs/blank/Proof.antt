@@ -1,29 +1,24 @@
--- `sheet::blank` meets its contract. The bytes passed are zero, so what is left decides. Assumes nothing.
+-- `sheet::blank` meets its contract: what has been read and what is left decide together. Assumes nothing.
 use mathlib.Core.Path.{_≡_, refl, sym, ap, _∙_}
+use mathlib.Core.Bool.{_&&_}
 use Prim.Native.Nat.{ℕ, _-_, _≤_}
 use native.Mathlib.Omega.{arith}
 use Rattle.sheet.specs.Layout.{zeros}
-use Rattle.sheet.proofs.Layouts.{zeros-stop, zeros-next, zeros-end}
+use Rattle.sheet.proofs.Layouts.{zeros-next, zeros-end}
 use Rattle.sheet.proofs.blank.Statement.{statement}
 use Rattle.sheet.proofs.blank.Tie as tie
 
 abbrev Inv-loop : tie.InvT-loop
-Inv-loop r at end i₀ i = (at ≤ i) × (i ≤ end) × (zeros r at (end - at) ≡ zeros r i (end - i))
+Inv-loop r at end ok₀ i₀ ok i = (at ≤ i) × (i ≤ end) × (zeros r at (end - at) ≡ (ok && zeros r i (end - i)))
 
 abbrev μ-loop : tie.MeasureT-loop
-μ-loop r at end i₀ i = end - i
+μ-loop r at end ok₀ i₀ ok i = end - i
 
 loop-holds : tie.Need-loop-holds Inv-loop μ-loop
 loop-holds c = (omega arith, omega arith, refl)
 
-shared-slice-read-if1 : tie.Need-shared-slice-read-if1 Inv-loop μ-loop
-shared-slice-read-if1 c = omega arith
-
-returns : tie.Need-returns Inv-loop μ-loop
-returns c =
-    let l = c .before .before .before .loop in
-    let s = c .before .before .before .before in
-    sym (l .inv .2 ∙ zeros-stop (s .args .r .now) (l .i) (s .args .end) (c .before .before .loop-test .taken) (c .if1 .taken))
+shared-slice-read-ok : tie.Need-shared-slice-read-ok Inv-loop μ-loop
+shared-slice-read-ok c = omega arith
 
 add-i : tie.Need-add-i Inv-loop μ-loop
 add-i c = omega arith
@@ -33,16 +28,16 @@ loop-less c = omega arith
 
 loop-again : tie.Need-loop-again Inv-loop μ-loop
 loop-again c =
-    let l = c .before .before .before .loop in
-    let s = c .before .before .before .before in
-    (omega arith, omega arith, l .inv .2 ∙ zeros-next (s .args .r .now) (l .i) (s .args .end) (c .before .before .loop-test .taken) (c .if1 .left))
+    let l = c .before .before .loop in
+    let s = c .before .before .before in
+    (omega arith, omega arith, l .inv .2 ∙ zeros-next (s .args .r .now) (l .i) (s .args .end) (l .ok) (c .before .loop-test .taken))
 
-returns-2 : tie.Need-returns-2 Inv-loop μ-loop
-returns-2 c =
+returns : tie.Need-returns Inv-loop μ-loop
+returns c =
     let l = c .before .loop in
     let s = c .before .before in
     let met : s .args .end ≡ l .i = omega arith in
-    sym (l .inv .2 ∙ ap (λ (n : ℕ). zeros (s .args .r .now) (l .i) (n - l .i)) met ∙ zeros-end (s .args .r .now) (l .i))
+    sym (l .inv .2 ∙ ap (λ (n : ℕ). l .ok && zeros (s .args .r .now) (l .i) (n - l .i)) met ∙ zeros-end (s .args .r .now) (l .i) (l .ok))
 
 pub blank-spec : {M : Type 1} → statement M
 blank-spec =
@@ -51,9 +46,8 @@ blank-spec =
     Inv-loop
     μ-loop
     loop-holds
-    shared-slice-read-if1
-    returns
+    shared-slice-read-ok
     add-i
     loop-less
     loop-again
-    returns-2)
+    returns)
