@@ -8,11 +8,11 @@ use lib.Dec.{ltb}
 use lib.ListN.{length}
 use borrow.Author.Tests.{ltb-false}
 use Rattle.units.proofs.Tests.{chosen, neither}
-use Rattle.sheet.specs.declared.Closing.{Closing}
+use Rattle.records.specs.declared.Closing.{Closing}
 use Rattle.sheet.specs.declared.Examination.{Examination}
 use Rattle.sheet.specs.declared.Examination.the-variants as examination
-use Rattle.sheet.specs.Records.{recordAt}
-use Rattle.sheet.specs.Layout.{closingIn}
+use Rattle.records.specs.Records.{recordAt}
+use Rattle.records.specs.Layout.{closingIn}
 use Rattle.sheet.specs.Examining.{lastOf, examined}
 use Rattle.sheet.proofs.Examinations.{WholeSheet, whole}
 use Rattle.reference.specs.Reference.{aUrban, aRef}

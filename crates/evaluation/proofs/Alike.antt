@@ -15,14 +15,16 @@ use Rattle.level.specs.declared.Reading.the-variants as level
 use Rattle.level.specs.declared.Side.the-variants as side
 use Rattle.level.specs.Correction.{sideOf}
 use Rattle.level.proofs.Sides.{side-rising}
-use Rattle.sheet.specs.declared.Vehicle.{Vehicle}
-use Rattle.sheet.specs.declared.Closing.{Closing}
-use Rattle.sheet.specs.Records.{records, recordAt}
-use Rattle.sheet.specs.Layout.{byte, word, vehicleIn, closingIn, readingFrom}
+use Rattle.records.specs.declared.Vehicle.{Vehicle}
+use Rattle.records.specs.declared.Closing.{Closing}
+use Rattle.records.specs.Records.{records, recordAt}
+use Rattle.records.specs.Fields.{byte, word}
+use Rattle.records.specs.Layout.{vehicleIn, closingIn}
+use Rattle.run.specs.Layout.{readingFrom}
 use Rattle.sheet.specs.Examining.{lastOf}
-use Rattle.sheet.proofs.Layouts.{vehicle-ranges, closing-ranges}
+use Rattle.records.proofs.Layouts.{vehicle-ranges, closing-ranges}
 use Rattle.sheet.proofs.Examinations.{WholeSheet}
-use Rattle.sheet.proofs.Shown.{byte-of}
+use Rattle.records.proofs.Shown.{byte-of}
 use Rattle.reference.specs.Reference.{pmrOf}
 use Rattle.window.specs.declared.ValidRun.{ValidRun}
 use Rattle.window.specs.declared.Validity.the-variants.{Valid}

@@ -7,13 +7,13 @@ use native.Mathlib.Omega.{arith}
 use lib.Dec.{leb}
 use lib.ListN.{length}
 use borrow.Author.Tests.{lt-ltb, le-ltb}
-use Rattle.sheet.specs.declared.Vehicle.{Vehicle}
-use Rattle.sheet.specs.declared.Closing.{Closing}
+use Rattle.records.specs.declared.Vehicle.{Vehicle}
+use Rattle.records.specs.declared.Closing.{Closing}
 use Rattle.sheet.specs.declared.Examination.the-variants.{Whole}
-use Rattle.sheet.specs.Records.{recordAt}
-use Rattle.sheet.specs.Layout.{vehicleIn}
+use Rattle.records.specs.Records.{recordAt}
+use Rattle.records.specs.Layout.{vehicleIn}
 use Rattle.sheet.specs.Examining.{examined}
-use Rattle.sheet.proofs.Layouts.{vehicle-ranges}
+use Rattle.records.proofs.Layouts.{vehicle-ranges}
 use Rattle.sheet.proofs.Examinations.{WholeSheet, whole}
 use Rattle.units.specs.declared.Hundredths.{Hundredths}
 use Rattle.reference.specs.Reference.{pmrOf, aUrban, aRef}

@@ -4,12 +4,12 @@ use mathlib.Core.Bool.{cond, not, _||_}
 use mathlib.Core.List.{List}
 use lib.Dec.{ltb, eqb}
 use lib.ListN.{length, getD}
-use Rattle.sheet.specs.declared.Vehicle.{Vehicle}
-use Rattle.sheet.specs.declared.Closing.{Closing}
+use Rattle.records.specs.declared.Vehicle.{Vehicle}
+use Rattle.records.specs.declared.Closing.{Closing}
 use Rattle.sheet.specs.declared.Examination.{Examination}
 use Rattle.sheet.specs.declared.Examination.the-variants as examination
-use Rattle.sheet.specs.Records.{recordAt}
-use Rattle.sheet.specs.Layout.{vehicleIn, closingIn}
+use Rattle.records.specs.Records.{recordAt}
+use Rattle.records.specs.Layout.{vehicleIn, closingIn}
 use Rattle.sheet.specs.Examining.{lastOf, examined}
 use Rattle.reference.specs.Reference.{pmrOf, aUrban, aRef}
 use Rattle.window.specs.declared.Four.{Four}

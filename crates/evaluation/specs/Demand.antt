@@ -8,8 +8,8 @@ use lib.Dec.{eqb, leb, ltb}
 use lib.Ieee.{Float, binary32, ofBits, lt}
 use lib.ListN.{length, getD}
 use Rattle.units.specs.Bytes.{number}
-use Rattle.sheet.specs.Records.{recordAt}
-use Rattle.sheet.specs.Layout.{byte}
+use Rattle.records.specs.Records.{recordAt}
+use Rattle.records.specs.Fields.{byte}
 use Rattle.window.specs.declared.Window.{Window}
 use Rattle.window.specs.declared.Window.the-variants as window
 use Rattle.session.specs.Table.{Track, windowOf, gearsOf, windowsOf}

@@ -1,11 +1,11 @@
 // The evaluation of a sheet: any byte string to a result, or to one numbered refusal.
 use gears::Choice;
 use gears::Gear;
+use records::Closing;
+use records::Record;
+use records::Vehicle;
 use session::Table;
-use sheet::Closing;
 use sheet::Examination;
-use sheet::Record;
-use sheet::Vehicle;
 use units::Hundredths;
 use units::Tenths;
 use urban::Chosen;

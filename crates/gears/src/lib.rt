@@ -4,9 +4,9 @@ ghost use mathlib.Core.Path.{_≡_};
 ghost use mathlib.Core.Bool.{cond, _&&_};
 ghost use Prim.Native.Nat.{_+_, _-_, _*_, _≤_, _<_};
 ghost use lib.Dec.{ltb};
-ghost use lib.ListN.{length, take};
+ghost use lib.ListN.{take};
 ghost use Rattle.gears.specs.Acceleration.{accelerationOf, meanOf};
-ghost use Rattle.gears.specs.Rules.{firstNotFalling, apart, near, nearest, jOf, firstBelow, oneAt, acrossOf, choiceOf, kOf};
+ghost use Rattle.gears.specs.Rules.{firstNotFalling, apart, near, nearest, jOf, firstBelow, acrossOf, choiceOf, kOf};
 
 // A gear that remains.
 pub struct Gear {

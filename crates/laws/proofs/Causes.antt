@@ -11,8 +11,8 @@ use lib.Dec.{ltb}
 use borrow.Author.Tests.{ltb-true, ltb-false}
 use Rattle.sheet.specs.declared.Examination.{Examination}
 use Rattle.sheet.specs.declared.Examination.the-variants as examination
-use Rattle.sheet.specs.Records.{records, recordAt}
-use Rattle.sheet.specs.Layout.{vehicleIn, closingIn}
+use Rattle.records.specs.Records.{records, recordAt}
+use Rattle.records.specs.Layout.{vehicleIn, closingIn}
 use Rattle.sheet.specs.Examining.{lastOf, wrongSize, noVehicle, noClosing, lowestBroken, examined}
 use Rattle.window.specs.declared.Four.{Four}
 use Rattle.window.specs.declared.Window.{Window}

@@ -16,8 +16,10 @@ use Rattle.level.specs.Correction.{corrections, correctionOf, correctedSide, si
 use Rattle.level.specs.Level.{inRange, tenthsOf}
 use Rattle.level.specs.Reading.{readingOf}
 use Rattle.reference.specs.Reference.{pmrOf, between, aUrban, aRef}
-use Rattle.sheet.specs.Records.{records, recordAt}
-use Rattle.sheet.specs.Layout.{zeros, vehicleTests, vehicleGood, vehicleIn, runTests, runGood, runIn, readingFrom, closingTests, closingGood, closingIn}
+use Rattle.records.specs.Records.{records, recordAt}
+use Rattle.records.specs.Fields.{zeros}
+use Rattle.records.specs.Layout.{vehicleTests, vehicleGood, vehicleIn, closingTests, closingGood, closingIn}
+use Rattle.run.specs.Layout.{runTests, runGood, runIn, readingFrom}
 use Rattle.sheet.specs.Examining.{wrongSize, noVehicle, noClosing, goodAt, lowestBroken, examined}
 use Rattle.window.specs.Runs.{bothSides, validOf, candidateOf, restFrom, restOf}
 use Rattle.window.specs.Windows.{spanned, fitting, nobody as window·nobody, fourAt, firstPlace, firstWindow, largerSum}

@@ -5,7 +5,7 @@ use mathlib.Core.Bool.{Bool, true, false, not, _||_}
 use mathlib.Core.List.{List, [], _∷_}
 use lib.Dec.{ltb}
 use lib.ListN.{length, getD}
-use Rattle.sheet.specs.Records.{records}
+use Rattle.records.specs.Records.{records}
 use Rattle.sheet.specs.Examining.{wrongSize, noVehicle, noClosing, lowestBroken}
 use Rattle.window.specs.declared.Window.{Window}
 use Rattle.window.specs.declared.Window.the-variants as window

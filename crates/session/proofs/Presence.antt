@@ -8,8 +8,8 @@ use lib.Dec.{eqb}
 use lib.ListN.{length, getD, set}
 use lib.Seq.{getD-set-same, getD-set-other}
 use borrow.Author.Tests.{eqb-true, eqb-false}
-use Rattle.sheet.specs.Records.{recordAt}
-use Rattle.sheet.specs.Layout.{byte}
+use Rattle.records.specs.Records.{recordAt}
+use Rattle.records.specs.Fields.{byte}
 use Rattle.session.specs.Table.{some, accelerates}
 
 -- ---- some of the numbers before `end`

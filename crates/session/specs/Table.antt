@@ -7,8 +7,8 @@ use mathlib.Core.List.{List, [], _∷_, map}
 use lib.Dec.{leb, eqb}
 use lib.ListN.{take}
 use Rattle.units.specs.Lowest.{lowest}
-use Rattle.sheet.specs.Records.{records, recordAt}
-use Rattle.sheet.specs.Layout.{byte}
+use Rattle.records.specs.Records.{records, recordAt}
+use Rattle.records.specs.Fields.{byte}
 use Rattle.window.specs.declared.Four.{Four}
 use Rattle.window.specs.declared.Window.{Window}
 use Rattle.window.specs.declared.Window.the-variants as window

@@ -1,16 +1,16 @@
 // A session's gears: from a whole sheet to the table of the gears that remain.
 use gears::Gear;
-use sheet::Record;
+use records::Record;
 use units::Hundredths;
 use units::Tenths;
 use window::Four;
 use window::ValidRun;
 use window::Window;
 ghost use mathlib.Core.Path.{_≡_};
-ghost use mathlib.Core.Bool.{Bool, false};
+ghost use mathlib.Core.Bool.{false};
 ghost use Prim.Native.Nat.{ℕ, _+_, _≤_, _<_};
-ghost use lib.ListN.{length, take, getD};
-ghost use Rattle.sheet.specs.Records.{records, recordAt};
+ghost use lib.ListN.{length, getD};
+ghost use Rattle.records.specs.Records.{records};
 ghost use Rattle.window.specs.Runs.{RunsGood};
 ghost use Rattle.window.proofs.Members.{Each, Rising};
 ghost use Rattle.session.specs.Table.{anyRun, hasRun, windowOf, within, gearAcceleration, byWindow, stateOf, Tabled, trackOf};

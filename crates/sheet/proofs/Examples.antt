@@ -14,8 +14,10 @@ use Rattle.level.specs.Level.{inRange}
 use Rattle.level.specs.Reading.{readingOf}
 use Rattle.sheet.specs.declared.Examination.{Examination}
 use Rattle.sheet.specs.declared.Examination.the-variants.{Whole, WrongSize, NoVehicle, NoClosing, BrokenRecord}
-use Rattle.sheet.specs.Records.{records, recordAt}
-use Rattle.sheet.specs.Layout.{zeros, vehicleTests, vehicleGood, runTests, runGood, closingTests, closingGood}
+use Rattle.records.specs.Records.{records, recordAt}
+use Rattle.records.specs.Fields.{zeros}
+use Rattle.records.specs.Layout.{vehicleTests, vehicleGood, closingTests, closingGood}
+use Rattle.run.specs.Layout.{runTests, runGood}
 use Rattle.sheet.specs.Examining.{wrongSize, noVehicle, noClosing, goodAt, lowestBroken, examined}
 
 -- an outcome as one number: the refusal's number and its place

@@ -1,4 +1,2 @@
-pub mod Shown
-pub mod Layouts
 pub mod Examinations
 mod Examples

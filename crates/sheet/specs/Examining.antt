@@ -7,8 +7,10 @@ use lib.ListN.{length}
 use Rattle.units.specs.Lowest.{lowest}
 use Rattle.sheet.specs.declared.Examination.{Examination}
 use Rattle.sheet.specs.declared.Examination.the-variants.{Whole, WrongSize, NoVehicle, NoClosing, BrokenRecord}
-use Rattle.sheet.specs.Records.{records, recordAt}
-use Rattle.sheet.specs.Layout.{byte, word, vehicleGood, vehicleIn, runGood, closingGood, closingIn}
+use Rattle.records.specs.Records.{records, recordAt}
+use Rattle.records.specs.Fields.{byte, word}
+use Rattle.records.specs.Layout.{vehicleGood, vehicleIn, closingGood, closingIn}
+use Rattle.run.specs.Layout.{runGood}
 
 -- the number of the last record
 abbrev pub lastOf : List ℕ → ℕ

@@ -14,10 +14,11 @@ use Rattle.units.proofs.Tests.{chosen, both}
 use Rattle.level.specs.declared.Side.{Side}
 use Rattle.level.specs.declared.Side.the-variants as side
 use Rattle.level.specs.Correction.{sideOf}
-use Rattle.sheet.specs.declared.Run.{Run}
-use Rattle.sheet.specs.Records.{records, recordAt}
-use Rattle.sheet.specs.Layout.{byte, word, runIn, readingFrom}
-use Rattle.sheet.proofs.Layouts.{run-ranges}
+use Rattle.run.specs.declared.Run.{Run}
+use Rattle.records.specs.Records.{records, recordAt}
+use Rattle.records.specs.Fields.{byte, word}
+use Rattle.run.specs.Layout.{runIn, readingFrom}
+use Rattle.run.proofs.Layouts.{run-ranges}
 use Rattle.window.specs.declared.ValidRun.{ValidRun}
 use Rattle.window.specs.declared.Four.{Four}
 use Rattle.window.specs.declared.Window.the-variants.{Runs}

@@ -5,8 +5,8 @@ use Prim.Native.Nat.{ℕ}
 use Rattle.level.specs.declared.Side.{Side}
 use Rattle.level.specs.declared.Side.the-variants as side
 use Rattle.level.specs.Correction.{sideOf}
-use Rattle.sheet.specs.declared.Run.{Run}
-use Rattle.sheet.specs.Layout.{readingFrom}
+use Rattle.run.specs.declared.Run.{Run}
+use Rattle.run.specs.Layout.{readingFrom}
 use Rattle.window.specs.declared.Validity.the-variants.{NotValid}
 use Rattle.window.specs.Runs.{bothSides, validOf}
 

@@ -7,9 +7,10 @@ use lib.Dec.{eqb}
 use Rattle.level.specs.declared.Side.{Side}
 use Rattle.level.specs.declared.Side.the-variants as side
 use Rattle.level.specs.Correction.{sideOf}
-use Rattle.sheet.specs.declared.Run.{Run}
-use Rattle.sheet.specs.Records.{records, recordAt}
-use Rattle.sheet.specs.Layout.{byte, runGood, runIn, readingFrom}
+use Rattle.run.specs.declared.Run.{Run}
+use Rattle.records.specs.Records.{records, recordAt}
+use Rattle.records.specs.Fields.{byte}
+use Rattle.run.specs.Layout.{runGood, runIn, readingFrom}
 use Rattle.window.specs.declared.ValidRun.{ValidRun}
 use Rattle.window.specs.declared.Validity.{Validity}
 use Rattle.window.specs.declared.Validity.the-variants.{Valid, NotValid}

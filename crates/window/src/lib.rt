@@ -1,16 +1,16 @@
 // Windows: the runs that count, and the first four neighbours among them that lie close together.
 use level::Side;
-use sheet::Record;
-use sheet::Run;
+use records::Record;
+use run::Run;
 use units::Tenths;
 ghost use mathlib.Core.Path.{_≡_};
 ghost use mathlib.Core.Bool.{true};
-ghost use Prim.Native.Nat.{ℕ, _+_, _-_, _≤_, _<_, max, min};
-ghost use lib.ListN.{length, take};
-ghost use Rattle.sheet.specs.Records.{records, recordAt};
-ghost use Rattle.sheet.specs.Layout.{runGood};
+ghost use Prim.Native.Nat.{_+_, _-_, _≤_, _<_, max, min};
+ghost use lib.ListN.{take};
+ghost use Rattle.records.specs.Records.{records, recordAt};
+ghost use Rattle.run.specs.Layout.{runGood};
 ghost use Rattle.window.specs.Runs.{validOf, candidateOf, RunsGood, restOf};
-ghost use Rattle.window.specs.Windows.{spanned, fitting, fourAt, firstPlace, firstWindow, largerSum, levelOf};
+ghost use Rattle.window.specs.Windows.{spanned, fitting, firstWindow, levelOf};
 
 // A run that counts, with its corrected levels.
 pub struct ValidRun {
@@ -82,7 +82,7 @@ fn candidate(sheet: &[u8], background: Tenths, kind: u8, gear: u8, number: u16) 
 {
     let r = Record::at(sheet, number as usize);
     if (r[0] == kind) & (r[1] == gear) {
-        valid(sheet::run_in(r), background, number)
+        valid(run::run_in(r), background, number)
     } else {
         Validity::NotValid
     }

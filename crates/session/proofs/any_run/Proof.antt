@@ -6,9 +6,9 @@ use mathlib.Core.List.{List}
 use Prim.Native.Nat.{ℕ, _-_}
 use lib.ListN.{length}
 use borrow.Author.Tests.{eq-eqb, ne-eqb}
-use Rattle.sheet.specs.Records.{records, recordAt}
-use Rattle.sheet.specs.Layout.{byte}
-use Rattle.sheet.proofs.Shown.{record-long}
+use Rattle.records.specs.Records.{records, recordAt}
+use Rattle.records.specs.Fields.{byte}
+use Rattle.records.proofs.Shown.{record-long}
 use Rattle.session.specs.Table.{some, accelerates, anyRun}
 use Rattle.session.proofs.Presence.{some-here, some-next, some-end}
 use Rattle.session.proofs.any_run.Statement.{statement}

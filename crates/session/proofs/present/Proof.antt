@@ -9,12 +9,12 @@ use lib.Dec.{eqb}
 use lib.ListN.{length, length-set, getD-replicate, set}
 use borrow.Author.Tests.{eq-eqb, ne-eqb}
 use mathlib.Core.Logic.{⊎-elim}
-use Rattle.sheet.specs.Records.{records, recordAt}
-use Rattle.sheet.specs.Layout.{byte}
-use Rattle.sheet.proofs.Shown.{record-long}
+use Rattle.records.specs.Records.{records, recordAt}
+use Rattle.records.specs.Fields.{byte}
+use Rattle.records.proofs.Shown.{record-long}
 use Rattle.session.specs.Table.{some, accelerates, hasRun}
 use Rattle.session.proofs.Presence.{Seen, seen-start, seen-run, seen-other, seen-end}
-use Rattle.sheet.proofs.Layouts.{RunRanges, run-ranges}
+use Rattle.run.proofs.Layouts.{RunRanges, run-ranges}
 use Rattle.session.proofs.present.Statement.{statement}
 use Rattle.session.proofs.present.Tie as tie
 

@@ -3,11 +3,11 @@ use borrow.Author.Needs.{needs}
 use mathlib.Core.Path.{_≡_, ap, _∙_}
 use native.Mathlib.Omega.{arith}
 use lib.ListN.{length}
-use Rattle.sheet.proofs.Shown.{record-long}
-use Rattle.sheet.proofs.Layouts.{left-no-nan, right-no-nan}
+use Rattle.records.proofs.Shown.{record-long}
+use Rattle.run.proofs.Layouts.{left-no-nan, right-no-nan}
 use Rattle.window.specs.Runs.{candidateOf, validOf}
-use Rattle.sheet.specs.Layout.{runGood, runIn}
-use Rattle.sheet.specs.declared.Run.{Run}
+use Rattle.run.specs.Layout.{runGood, runIn}
+use Rattle.run.specs.declared.Run.{Run}
 use Rattle.window.proofs.candidate.Statement.{statement}
 use Rattle.window.proofs.candidate.Tie as tie
 

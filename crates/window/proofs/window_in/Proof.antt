@@ -6,7 +6,7 @@ use Prim.Native.Nat.{ℕ, _-_, _≤_, _<_}
 use lib.ListN.{length, length-set}
 use mathlib.Core.Logic.{⊎-elim}
 use Rattle.window.proofs.Rests.{Gathered, gathered-start, gathered-valid, gathered-other, gathered-all}
-use Rattle.sheet.specs.Records.{records}
+use Rattle.records.specs.Records.{records}
 use Rattle.window.specs.Runs.{restOf, restFrom}
 use Rattle.window.specs.Windows.{firstWindow}
 use Rattle.window.proofs.window_in.Statement.{statement}
