@@ -1,5 +1,6 @@
 pub mod Validities
 pub mod Searches
+mod Walking
 pub mod Rests
 mod Examples
 pub mod Members

@@ -4,8 +4,7 @@ use mathlib.Core.Bool.{true, false}
 use mathlib.Core.List.{List}
 use Prim.Native.Nat.{ℕ, _+_, _-_, _≤_, _<_}
 use native.Mathlib.Omega.{arith}
-use lib.ListN.{length, take}
-use lib.Seq.{getD-take}
+use lib.ListN.{length}
 use lib.Dec.{ltb}
 use borrow.Author.Tests.{lt-ltb, le-ltb, ltb-true, ltb-false}
 use Rattle.units.proofs.Lowest.{Lowest, found, Passed, passed-start, passed-next, passed-stop, passed-end}
@@ -14,7 +13,7 @@ use Rattle.window.specs.declared.ValidRun.{ValidRun}
 use Rattle.window.specs.declared.Four.{Four}
 use Rattle.window.specs.declared.Window.{Window}
 use Rattle.window.specs.declared.Window.the-variants.{Runs, Nothing}
-use Rattle.window.specs.Windows.{fitting, nobody, fourAt, firstPlace, firstWindow}
+use Rattle.window.specs.Windows.{fitting, fourAt, firstPlace, firstWindow}
 
 module _ (rest : List ValidRun) where
   -- nothing fits before place i
@@ -36,11 +35,6 @@ module _ (rest : List ValidRun) where
   pub found-nowhere : (i : ℕ) → length rest ≤ i + 3 → Reached i → firstWindow rest ≡ Nothing
   unfolding Reached firstWindow firstPlace
   found-nowhere i h r = simp (passed-end (λ k. fitting (fourAt rest k)) (length rest - 3) i (omega arith) r, le-ltb i (length rest - 3) (omega arith))
-
--- four neighbours among the first `count` runs
-pub four-taken : (runs : List ValidRun) (count i : ℕ) → i + 3 < count → fourAt (take count runs) i ≡ fourAt runs i
-unfolding fourAt
-four-taken runs count i h = simp (getD-take count runs i nobody (omega arith), getD-take count runs (i + 1) nobody (omega arith), getD-take count runs (i + 2) nobody (omega arith), getD-take count runs (i + 3) nobody h)
 
 -- ---- what is found, for a reader to check: a window, and no earlier one; or nothing, and then there is none
 

@@ -6,11 +6,11 @@ use units::Tenths;
 ghost use mathlib.Core.Path.{_≡_};
 ghost use mathlib.Core.Bool.{true};
 ghost use Prim.Native.Nat.{_+_, _-_, _≤_, _<_, max, min};
-ghost use lib.ListN.{take};
+ghost use lib.ListN.{length, take};
 ghost use Rattle.records.specs.Records.{records, recordAt};
 ghost use Rattle.run.specs.Layout.{runGood};
 ghost use Rattle.window.specs.Runs.{validOf, candidateOf, RunsGood, restOf};
-ghost use Rattle.window.specs.Windows.{spanned, fitting, firstWindow, levelOf};
+ghost use Rattle.window.specs.Windows.{spanned, fitting, fourAt, firstWindow, levelOf};
 
 // A run that counts, with its corrected levels.
 pub struct ValidRun {
@@ -118,25 +118,48 @@ pub fn fits(f: Four) -> bool
         & spans(f.a.right.0, f.b.right.0, f.c.right.0, f.d.right.0)
 }
 
-// The first window among the first `count` of `runs`.
-fn first_window(runs: [ValidRun; 1024], count: usize) -> Window
-    requires { ⌜ count ≤ 1024 ⌝ }
-    ensures { λ r. ⌜ r ≡ firstWindow (take count runs) ⌝ }
+// How many places `count` runs have for four neighbours.
+fn places(count: usize) -> usize
+    ensures { λ r. ⌜ r ≡ count - 3 ⌝ }
 {
-    let mut i = 0;
-    while i + 3 < count {
-        let f = Four {
-            a: runs[i],
-            b: runs[i + 1],
-            c: runs[i + 2],
-            d: runs[i + 3],
-        };
+    if count < 3 { 0 } else { count - 3 }
+}
+
+// Four neighbours, from place i on.
+fn four_at(runs: &[ValidRun], i: usize) -> Four
+    requires { ⌜ i + 3 < length (now runs) ⌝ }
+    ensures { λ r. ⌜ r ≡ fourAt (now (runs .entry)) i ⌝ }
+{
+    Four {
+        a: runs[i],
+        b: runs[i + 1],
+        c: runs[i + 2],
+        d: runs[i + 3],
+    }
+}
+
+// The first window among lent runs.
+fn first_window(runs: &[ValidRun]) -> Window
+    ensures { λ r. ⌜ r ≡ firstWindow (now (runs .entry)) ⌝ }
+{
+    let end = places(runs.len());
+    let mut i: usize = 0;
+    while i < end {
+        let f = four_at(runs, i);
         if fits(f) {
             return Window::Runs(f);
         }
         i += 1;
     }
     Window::Nothing
+}
+
+// The first window among the first `count` of `runs`, which are lent to the search. The one entry to it: its parameters are plain values.
+fn window_of(runs: [ValidRun; 1024], count: usize) -> Window
+    requires { ⌜ count ≤ 1024 ⌝ }
+    ensures { λ r. ⌜ r ≡ firstWindow (take count runs) ⌝ }
+{
+    first_window(&runs[..count])
 }
 
 // The first window of a gear and a run kind in a sheet.
@@ -164,7 +187,7 @@ pub fn window_in(sheet: &[u8], background: Tenths, kind: u8, gear: u8) -> Window
         }
         i += 1;
     }
-    first_window(runs, count)
+    window_of(runs, count)
 }
 
 fn sum(a: u16, b: u16, c: u16, d: u16) -> u32

@@ -69,8 +69,8 @@ loop-again c =
     (l .inv .0, omega arith, omega arith, gathered-other (a .sheet .now) (a .background .0) (a .kind) (a .gear) _ (l .i) (l .count) (l .runs) (c .before .before .loop-test .taken) (sym (c .before .candidate .ensures) ∙ w .1 .given .1) (l .inv .3)))
     (c .match .came)
 
-first-window-requires : tie.Need-first-window-requires Inv-loop μ-loop
-first-window-requires c κs = omega arith
+window-of-requires : tie.Need-window-of-requires Inv-loop μ-loop
+window-of-requires c κs = omega arith
 
 returns : tie.Need-returns Inv-loop μ-loop
 unfolding restOf records
@@ -79,7 +79,7 @@ returns c =
     let a = c .before .before .before .before .args in
     let s = a .sheet .now in
     let runs : records s - 1 - 1 ≡ records s - 2 = omega arith in
-    c .first-window .ensures
+    c .window-of .ensures
     ∙ ap firstWindow (gathered-all s (a .background .0) (a .kind) (a .gear) _ (l .i) (l .count) (l .runs) (c .before .loop-test .left) (l .inv .3))
     ∙ ap (λ (n : ℕ). firstWindow (restFrom s (a .background .0) (a .kind) (a .gear) 1 n)) runs
 
@@ -101,5 +101,5 @@ window-in-spec =
     add-i
     loop-less
     loop-again
-    first-window-requires
+    window-of-requires
     returns)
