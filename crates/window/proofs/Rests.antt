@@ -1,14 +1,19 @@
--- The rest of a gear and a run kind, run by run. Assumes nothing.
+-- The first window of a gear and a run kind, record by record. Assumes nothing.
 use mathlib.Core.Path.{_≡_, refl, sym, ap, _∙_}
-use mathlib.Core.List.{List, _++_}
+use mathlib.Core.List.{List, _++_, append-nil}
 use Prim.Native.Nat.{ℕ, suc, _+_, _-_, _≤_, _<_}
 use native.Mathlib.Omega.{arith}
-use lib.ListN.{length, take, set}
-use Rattle.units.proofs.Gathering.{gather, gathered}
+use lib.ListN.{length, take, drop, set}
+use lib.Seq.{take-all}
+use Rattle.units.proofs.Gathering.{gather}
 use Rattle.window.specs.declared.ValidRun.{ValidRun}
+use Rattle.window.specs.declared.Four.{Four}
+use Rattle.window.specs.declared.Window.the-variants.{Runs, Nothing}
 use Rattle.window.specs.declared.Validity.{Validity}
 use Rattle.window.specs.declared.Validity.the-variants.{Valid, NotValid}
 use Rattle.window.specs.Runs.{candidateOf, ahead, restFrom}
+use Rattle.window.specs.Windows.{firstWindow}
+use Rattle.window.proofs.Parts.{found-in-part, carried}
 
 module _ (s : List ℕ) (background kind gear : ℕ) where
   -- record i, then the others before `end`
@@ -16,28 +21,44 @@ module _ (s : List ℕ) (background kind gear : ℕ) where
   unfolding restFrom
   step end i h = let more : end - i ≡ suc (end - (i + 1)) = omega arith in rw more
 
-  -- what has been found before record i, the first `count` of `runs`, and what the records from i on have, are all of it
-  pub Gathered : ℕ → List ValidRun → ℕ → ℕ → Type 0
-  Gathered end runs count i = take count runs ++ restFrom s background kind gear i (end - i) ≡ restFrom s background kind gear 1 (end - 1)
+  -- Of the runs before record i the first `count` of `runs` are kept: they and the runs from record i on have the window that all have.
+  pub Sought : ℕ → List ValidRun → ℕ → ℕ → Type 0
+  Sought end runs count i = firstWindow (take count runs ++ restFrom s background kind gear i (end - i)) ≡ firstWindow (restFrom s background kind gear 1 (end - 1))
 
-  pub gathered-start : (end : ℕ) (runs : List ValidRun) → Gathered end runs 0 1
-  unfolding Gathered
-  gathered-start end runs = refl
+  pub sought-start : (end : ℕ) (runs : List ValidRun) → Sought end runs 0 1
+  unfolding Sought
+  sought-start end runs = refl
 
   -- record i is valid, or it is set aside
-  ahead-is : (end i count : ℕ) (runs : List ValidRun) (x : Validity) → i < end → candidateOf s background kind gear i ≡ x → Gathered end runs count i → take count runs ++ ahead x (restFrom s background kind gear (i + 1) (end - (i + 1))) ≡ restFrom s background kind gear 1 (end - 1)
-  unfolding Gathered
+  ahead-is : (end i count : ℕ) (runs : List ValidRun) (x : Validity) → i < end → candidateOf s background kind gear i ≡ x → Sought end runs count i → firstWindow (take count runs ++ ahead x (restFrom s background kind gear (i + 1) (end - (i + 1)))) ≡ firstWindow (restFrom s background kind gear 1 (end - 1))
+  unfolding Sought
   ahead-is end i count runs x h e g =
-      sym (ap (λ (l : List ValidRun). take count runs ++ l) (step end i h ∙ ap (λ (v : Validity). ahead v (restFrom s background kind gear (i + 1) (end - (i + 1)))) e)) ∙ g
+      sym (ap (λ (l : List ValidRun). firstWindow (take count runs ++ l)) (step end i h ∙ ap (λ (v : Validity). ahead v (restFrom s background kind gear (i + 1) (end - (i + 1)))) e)) ∙ g
 
-  pub gathered-valid : (end i count : ℕ) (runs : List ValidRun) (v : ValidRun) → i < end → count < length runs → candidateOf s background kind gear i ≡ Valid v → Gathered end runs count i → Gathered end (set runs count v) (count + 1) (i + 1)
-  unfolding Gathered
-  gathered-valid end i count runs v h l e g = gather runs count _ _ v l (ahead-is end i count runs (Valid v) h e g)
+  pub sought-valid : (end i count : ℕ) (runs : List ValidRun) (v : ValidRun) → i < end → count < length runs → candidateOf s background kind gear i ≡ Valid v → Sought end runs count i → Sought end (set runs count v) (count + 1) (i + 1)
+  unfolding Sought
+  sought-valid end i count runs v h l e g = ap firstWindow (gather runs count _ _ v l refl) ∙ ahead-is end i count runs (Valid v) h e g
 
-  pub gathered-other : (end i count : ℕ) (runs : List ValidRun) → i < end → candidateOf s background kind gear i ≡ NotValid → Gathered end runs count i → Gathered end runs count (i + 1)
-  unfolding Gathered
-  gathered-other end i count runs h e g = ahead-is end i count runs NotValid h e g
+  pub sought-other : (end i count : ℕ) (runs : List ValidRun) → i < end → candidateOf s background kind gear i ≡ NotValid → Sought end runs count i → Sought end runs count (i + 1)
+  unfolding Sought
+  sought-other end i count runs h e g = ahead-is end i count runs NotValid h e g
 
-  pub gathered-all : (end i count : ℕ) (runs : List ValidRun) → end ≤ i → Gathered end runs count i → take count runs ≡ restFrom s background kind gear 1 (end - 1)
-  unfolding Gathered restFrom
-  gathered-all end i count runs h g = let none : end - i ≡ 0 = omega arith in gathered runs count _ _ (rw none) g
+  -- a window among the runs that are kept is the first of all
+  pub sought-found : (end i count : ℕ) (runs : List ValidRun) (f : Four) → firstWindow (take count runs) ≡ Runs f → Sought end runs count i → Runs f ≡ firstWindow (restFrom s background kind gear 1 (end - 1))
+  unfolding Sought
+  sought-found end i count runs f e g = sym (found-in-part (take count runs) _ f e) ∙ g
+
+  -- if they have none, the last three are enough
+  pub sought-carried : (end i : ℕ) (runs kept : List ValidRun) → length runs ≡ 16 → firstWindow (take 16 runs) ≡ Nothing → take 3 kept ≡ drop 13 runs → Sought end runs 16 i → Sought end kept 3 i
+  unfolding Sought
+  sought-carried end i runs kept long e k g =
+      let all : take 16 runs ≡ runs = take-all 16 runs (omega arith) in
+      let part : length runs - 3 ≡ 13 = omega arith in
+      ap (λ (l : List ValidRun). firstWindow (l ++ restFrom s background kind gear i (end - i))) (k ∙ ap (λ (n : ℕ). drop n runs) (sym part))
+      ∙ sym (carried runs (restFrom s background kind gear i (end - i)) (ap firstWindow (sym all) ∙ e))
+      ∙ ap (λ (l : List ValidRun). firstWindow (l ++ restFrom s background kind gear i (end - i))) (sym all)
+      ∙ g
+
+  pub sought-all : (end i count : ℕ) (runs : List ValidRun) → end ≤ i → Sought end runs count i → firstWindow (take count runs) ≡ firstWindow (restFrom s background kind gear 1 (end - 1))
+  unfolding Sought restFrom
+  sought-all end i count runs h g = let none : end - i ≡ 0 = omega arith in ap firstWindow (sym (append-nil (take count runs))) ∙ (rw none at g)

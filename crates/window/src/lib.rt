@@ -6,7 +6,7 @@ use units::Tenths;
 ghost use mathlib.Core.Path.{_≡_};
 ghost use mathlib.Core.Bool.{true};
 ghost use Prim.Native.Nat.{_+_, _-_, _≤_, _<_, max, min};
-ghost use lib.ListN.{length, take};
+ghost use lib.ListN.{length, take, drop};
 ghost use Rattle.records.specs.Records.{records, recordAt};
 ghost use Rattle.run.specs.Layout.{runGood};
 ghost use Rattle.window.specs.Runs.{validOf, candidateOf, RunsGood, restOf};
@@ -155,14 +155,25 @@ fn first_window(runs: &[ValidRun]) -> Window
 }
 
 // The first window among the first `count` of `runs`, which are lent to the search. The one entry to it: its parameters are plain values.
-fn window_of(runs: [ValidRun; 1024], count: usize) -> Window
-    requires { ⌜ count ≤ 1024 ⌝ }
+fn window_of(runs: [ValidRun; 16], count: usize) -> Window
+    requires { ⌜ count ≤ 16 ⌝ }
     ensures { λ r. ⌜ r ≡ firstWindow (take count runs) ⌝ }
 {
     first_window(&runs[..count])
 }
 
-// The first window of a gear and a run kind in a sheet.
+// A full array of runs that hold no window: the last three, which may begin one, come to the front.
+fn carry(runs: [ValidRun; 16]) -> [ValidRun; 16]
+    ensures { λ r. ⌜ take 3 r ≡ drop 13 runs ⌝ }
+{
+    let mut kept = runs;
+    kept[0] = runs[13];
+    kept[1] = runs[14];
+    kept[2] = runs[15];
+    kept
+}
+
+// The first window of a gear and a run kind in a sheet. Runs that count are gathered 16 at a time.
 pub fn window_in(sheet: &[u8], background: Tenths, kind: u8, gear: u8) -> Window
     requires { ⌜ RunsGood (now sheet) ⌝ }
     ensures { λ r. ⌜ r ≡ firstWindow (restOf (now (sheet .entry)) (background .0) kind gear) ⌝ }
@@ -176,7 +187,7 @@ pub fn window_in(sheet: &[u8], background: Tenths, kind: u8, gear: u8) -> Window
         engine: 0,
         number: 0,
     };
-    let mut runs = [nobody; 1024];
+    let mut runs = [nobody; 16];
     let mut count: usize = 0;
     let mut i: usize = 1;
     while i < last {
@@ -184,6 +195,13 @@ pub fn window_in(sheet: &[u8], background: Tenths, kind: u8, gear: u8) -> Window
         if let Validity::Valid(v) = found {
             runs[count] = v;
             count += 1;
+        }
+        if count == 16 {
+            if let Window::Runs(f) = window_of(runs, 16) {
+                return Window::Runs(f);
+            }
+            runs = carry(runs);
+            count = 3;
         }
         i += 1;
     }

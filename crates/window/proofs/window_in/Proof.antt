@@ -1,19 +1,25 @@
--- `window::window_in` meets its contract: what is gathered is the rest. Assumes nothing.
+-- `window::window_in` meets its contract: the runs that are kept, and those to come, have the window that all have. Assumes nothing.
 use borrow.Author.Needs.{needs}
-use mathlib.Core.Path.{_≡_, refl, sym, ap, _∙_}
-use native.Mathlib.Omega.{arith}
-use Prim.Native.Nat.{ℕ, _-_, _≤_, _<_}
-use lib.ListN.{length, length-set}
+use mathlib.Core.Path.{_≡_, refl, sym, ap, subst, _∙_}
 use mathlib.Core.Logic.{⊎-elim}
-use Rattle.window.proofs.Rests.{Gathered, gathered-start, gathered-valid, gathered-other, gathered-all}
+use native.Mathlib.Omega.{arith}
+use Prim.Native.Nat.{ℕ, _+_, _-_, _/_, _≤_, _<_}
+use lib.ListN.{length, take, length-set}
+use Rattle.window.proofs.Rests.{Sought, sought-start, sought-valid, sought-other, sought-found, sought-carried, sought-all}
 use Rattle.records.specs.Records.{records}
+use Rattle.window.specs.declared.Window.the-variants.{Runs}
 use Rattle.window.specs.Runs.{restOf, restFrom}
 use Rattle.window.specs.Windows.{firstWindow}
 use Rattle.window.proofs.window_in.Statement.{statement}
 use Rattle.window.proofs.window_in.Tie as tie
+use Rattle.window.proofs.window_in.Reads as reads
+use Rattle.window.proofs.window_in.Lts as lts
+use Rattle.window.proofs.candidate.Reads as candidate-reads
+use Rattle.window.proofs.carry.Reads as carry-reads
+use Rattle.window.proofs.window_of.Reads as window-of-reads
 
 abbrev Inv-loop : tie.InvT-loop
-Inv-loop sheet background kind gear last runs₀ count₀ i₀ runs count i = (length runs ≡ 1024) × (count < i) × (i ≤ 1024) × Gathered sheet (background .0) kind gear last runs count i
+Inv-loop sheet background kind gear last runs₀ count₀ i₀ runs count i = (length runs ≡ 16) × (count < 16) × (0 < i) × (i ≤ 1024) × Sought sheet (background .0) kind gear last runs count i
 
 abbrev μ-loop : tie.MeasureT-loop
 μ-loop sheet background kind gear last runs₀ count₀ i₀ runs count i = last - i
@@ -23,7 +29,7 @@ unfolding records
 sub-last c = omega (arith, c .before .pre .two)
 
 loop-holds : tie.Need-loop-holds Inv-loop μ-loop
-loop-holds c = (refl, omega arith, omega arith, gathered-start _ _ _ _ _ _)
+loop-holds c = (refl, omega arith, omega arith, omega arith, sought-start _ _ _ _ _ _)
 
 cast-candidate : tie.Need-cast-candidate Inv-loop μ-loop
 cast-candidate c = omega arith
@@ -50,6 +56,47 @@ add-count c = omega arith
 enum-told : tie.Need-enum-told Inv-loop μ-loop
 enum-told c = search needs
 
+window-of-requires : tie.Need-window-of-requires Inv-loop μ-loop
+window-of-requires c κs = omega arith
+
+enum-known-f : tie.Need-enum-known-f Inv-loop μ-loop
+enum-known-f c = search needs
+
+-- after record i, which was stored or set aside
+Stored : lts.At-match-came (candidate-reads.Asked, candidate-reads.Learnt, window-of-reads.Asked, window-of-reads.Learnt, carry-reads.Asked, carry-reads.Learnt) reads.Pre reads.Post Inv-loop μ-loop → Type 0
+Stored m =
+    let a = m .before .before .before .before .before .args in
+    (length (m .match .runs) ≡ 16) × (m .match .count ≤ 16) × Sought (a .sheet .now) (a .background .0) (a .kind) (a .gear) (length (a .sheet .now) / 32 - 1) (m .match .runs) (m .match .count) (m .before .before .before .loop .i + 1)
+
+stored : (m : lts.At-match-came (candidate-reads.Asked, candidate-reads.Learnt, window-of-reads.Asked, window-of-reads.Learnt, carry-reads.Asked, carry-reads.Learnt) reads.Pre reads.Post Inv-loop μ-loop) → Stored m
+unfolding Stored
+stored m =
+    let l = m .before .before .before .loop in
+    let a = m .before .before .before .before .before .args in
+    ⊎-elim
+    (λ w. rw (w .3, w .4)
+    (length-set (l .runs) (l .count) (w .1 .given .0 .0) ∙ l .inv .0, omega arith, sought-valid (a .sheet .now) (a .background .0) (a .kind) (a .gear) _ (l .i) (l .count) (l .runs) (w .1 .given .0 .0) (m .before .before .loop-test .taken) (omega arith) (sym (m .before .candidate .ensures) ∙ w .1 .given .1) (l .inv .4)))
+    (λ w. rw (w .2, w .3)
+    (l .inv .0, omega arith, sought-other (a .sheet .now) (a .background .0) (a .kind) (a .gear) _ (l .i) (l .count) (l .runs) (m .before .before .loop-test .taken) (sym (m .before .candidate .ensures) ∙ w .1 .given .1) (l .inv .4)))
+    (m .match .came)
+
+returns : tie.Need-returns Inv-loop μ-loop
+unfolding Stored restOf records
+returns c =
+    let m = c .before .before .before .before .before in
+    let a = m .before .before .before .before .before .args in
+    let s = a .sheet .now in
+    let runs : records s - 1 - 1 ≡ records s - 2 = omega arith in
+    let window : firstWindow (take 16 (m .match .runs)) ≡ Runs (c .before .f .given .0 .0) = sym (c .before .before .before .window-of .ensures) ∙ c .before .f .given .1 in
+    sought-found s (a .background .0) (a .kind) (a .gear) _ (m .before .before .before .loop .i + 1) 16 (m .match .runs) _ window (subst (λ (n : ℕ). Sought s (a .background .0) (a .kind) (a .gear) (length s / 32 - 1) (m .match .runs) n (m .before .before .before .loop .i + 1)) (c .before .before .before .before .if1 .taken) (stored m .2))
+    ∙ ap (λ (n : ℕ). firstWindow (restFrom s (a .background .0) (a .kind) (a .gear) 1 n)) runs
+
+enum-told-2 : tie.Need-enum-told-2 Inv-loop μ-loop
+enum-told-2 c = search needs
+
+carry-requires : tie.Need-carry-requires Inv-loop μ-loop
+carry-requires c κs = search needs
+
 add-i : tie.Need-add-i Inv-loop μ-loop
 add-i c = omega arith
 
@@ -57,30 +104,32 @@ loop-less : tie.Need-loop-less Inv-loop μ-loop
 loop-less c = omega arith
 
 loop-again : tie.Need-loop-again Inv-loop μ-loop
-unfolding records
+unfolding Stored records
 loop-again c =
-    let l = c .before .before .before .loop in
-    let a = c .before .before .before .before .before .args in
-    let few = c .before .before .before .before .before .pre .few in
+    let m = c .before in
+    let l = m .before .before .before .loop in
+    let a = m .before .before .before .before .before .args in
+    let s = a .sheet .now in
+    let few = m .before .before .before .before .before .pre .few in
+    let kept = stored m in
     ⊎-elim
-    (λ w. rw (w .3, w .4)
-    (length-set (l .runs) (l .count) (w .1 .given .0 .0) ∙ l .inv .0, omega arith, omega arith, gathered-valid (a .sheet .now) (a .background .0) (a .kind) (a .gear) _ (l .i) (l .count) (l .runs) (w .1 .given .0 .0) (c .before .before .loop-test .taken) (omega arith) (sym (c .before .candidate .ensures) ∙ w .1 .given .1) (l .inv .3)))
-    (λ w. rw (w .2, w .3)
-    (l .inv .0, omega arith, omega arith, gathered-other (a .sheet .now) (a .background .0) (a .kind) (a .gear) _ (l .i) (l .count) (l .runs) (c .before .before .loop-test .taken) (sym (c .before .candidate .ensures) ∙ w .1 .given .1) (l .inv .3)))
-    (c .match .came)
+    (λ w. rw (w .5, w .6)
+    (search needs, omega arith, omega arith, omega arith, sought-carried s (a .background .0) (a .kind) (a .gear) _ (l .i + 1) (m .match .runs) _ (kept .0) (sym (w .1 .ensures) ∙ w .3 .given .1) (w .4 .ensures) (subst (λ (n : ℕ). Sought s (a .background .0) (a .kind) (a .gear) (length s / 32 - 1) (m .match .runs) n (l .i + 1)) (w .0 .taken) (kept .2))))
+    (λ w. rw (w .1, w .2) (kept .0, omega (arith, kept .1, w .0 .left), omega arith, omega arith, kept .2))
+    (c .if1 .came)
 
-window-of-requires : tie.Need-window-of-requires Inv-loop μ-loop
-window-of-requires c κs = omega arith
+window-of-requires-2 : tie.Need-window-of-requires-2 Inv-loop μ-loop
+window-of-requires-2 c κs = omega arith
 
-returns : tie.Need-returns Inv-loop μ-loop
+returns-2 : tie.Need-returns-2 Inv-loop μ-loop
 unfolding restOf records
-returns c =
+returns-2 c =
     let l = c .before .before .loop in
     let a = c .before .before .before .before .args in
     let s = a .sheet .now in
     let runs : records s - 1 - 1 ≡ records s - 2 = omega arith in
-    c .window-of .ensures
-    ∙ ap firstWindow (gathered-all s (a .background .0) (a .kind) (a .gear) _ (l .i) (l .count) (l .runs) (c .before .loop-test .left) (l .inv .3))
+    c .window-of2 .ensures
+    ∙ sought-all s (a .background .0) (a .kind) (a .gear) _ (l .i) (l .count) (l .runs) (c .before .loop-test .left) (l .inv .4)
     ∙ ap (λ (n : ℕ). firstWindow (restFrom s (a .background .0) (a .kind) (a .gear) 1 n)) runs
 
 pub window-in-spec : {M : Type 1} → statement M
@@ -98,8 +147,13 @@ window-in-spec =
     array-set-from-runs
     add-count
     enum-told
+    window-of-requires
+    enum-known-f
+    returns
+    enum-told-2
+    carry-requires
     add-i
     loop-less
     loop-again
-    window-of-requires
-    returns)
+    window-of-requires-2
+    returns-2)

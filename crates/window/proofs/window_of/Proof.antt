@@ -67,7 +67,7 @@ use Rattle.window.proofs.window_of.Code as code
 
 -- the array's length, and its type
 abbrev N : ℕ
-N = 1024
+N = 16
 
 abbrev Runs : RattleType
 Runs = Array S.the-row N
