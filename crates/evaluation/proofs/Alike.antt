@@ -27,9 +27,9 @@ use Rattle.sheet.proofs.Examinations.{WholeSheet}
 use Rattle.records.proofs.Shown.{byte-of}
 use Rattle.reference.specs.Reference.{pmrOf}
 use Rattle.window.specs.declared.ValidRun.{ValidRun}
-use Rattle.window.specs.declared.Validity.the-variants.{Valid}
-use Rattle.window.specs.Runs.{candidateOf}
-use Rattle.window.proofs.Members.{counts}
+use Rattle.rest.specs.declared.Validity.the-variants.{Valid}
+use Rattle.rest.specs.Runs.{candidateOf}
+use Rattle.rest.proofs.Members.{counts}
 use Rattle.evaluation.specs.Decision.{trackIn, sheetVehicle, sheetTrack, pmrIn}
 use Rattle.evaluation.specs.Demand.{ofLevel, OnlyLevels, floatAt, lower}
 

@@ -18,7 +18,7 @@ use Rattle.sheet.proofs.Examinations.{WholeSheet, whole}
 use Rattle.units.specs.declared.Hundredths.{Hundredths}
 use Rattle.reference.specs.Reference.{pmrOf, aUrban, aRef}
 use Rattle.window.specs.declared.Four.{Four}
-use Rattle.window.specs.Runs.{RunsGood}
+use Rattle.rest.specs.Runs.{RunsGood}
 use Rattle.gears.specs.declared.Gear.{Gear}
 use Rattle.gears.specs.Rules.{a, firstNotFalling, choiceOf}
 use Rattle.units.proofs.Lowest.{found}

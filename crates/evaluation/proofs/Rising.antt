@@ -12,9 +12,9 @@ use Rattle.sheet.proofs.Examinations.{WholeSheet}
 use Rattle.window.specs.declared.ValidRun.{ValidRun}
 use Rattle.window.specs.declared.Four.{Four}
 use Rattle.window.specs.declared.Window.the-variants as window
-use Rattle.window.specs.Runs.{candidateOf}
+use Rattle.rest.specs.Runs.{candidateOf}
 use Rattle.window.specs.Windows.{largerSum}
-use Rattle.window.proofs.Members.{Member, window-members}
+use Rattle.rest.proofs.Members.{Member, window-members}
 use Rattle.session.specs.Table.{windowOf, gearAcceleration}
 use Rattle.urban.specs.declared.Outcome.{Outcome}
 use Rattle.urban.specs.declared.Reference.{Reference}

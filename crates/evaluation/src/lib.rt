@@ -21,7 +21,7 @@ ghost use Prim.Native.Nat.{_+_, _≤_, _<_};
 ghost use lib.Dec.{eqb};
 ghost use lib.ListN.{length, take};
 ghost use Rattle.sheet.specs.Examining.{examined};
-ghost use Rattle.window.specs.Runs.{RunsGood};
+ghost use Rattle.rest.specs.Runs.{RunsGood};
 ghost use Rattle.session.specs.Table.{windowOf};
 ghost use Rattle.urban.specs.Figure.{pair};
 ghost use Rattle.evaluation.specs.Decision.{gears, weighedGear, selectOne, selectPair, selectedIn, selectionBy, finishBy, decideGears, decisionOf};
@@ -137,7 +137,7 @@ fn select_one(
     requires { ⌜ RunsGood (now sheet) ⌝ }
     ensures { λ r. ⌜ r ≡ selectionBy reference (selectOne rule g f (windowOf (now (sheet .entry)) (background .0) 3 (g .number))) ⌝ }
 {
-    match window::window_in(sheet, background, Record::CONSTANT_SPEED, g.number) {
+    match rest::window_in(sheet, background, Record::CONSTANT_SPEED, g.number) {
         Window::Runs(h) => {
             let acceleration = g.acceleration;
             Selection::Chosen(Chosen::One(One {
@@ -194,8 +194,8 @@ fn select_pair(
     requires { ⌜ (j .acceleration .0 < reference .«a_ref» .0) × (reference .«a_ref» .0 ≤ i .acceleration .0) ⌝ }
     ensures { λ r. ⌜ r ≡ selectionBy reference (selectPair rule i fi (windowOf (now (sheet .entry)) (background .0) 3 (i .number)) j fj (windowOf (now (sheet .entry)) (background .0) 3 (j .number))) ⌝ }
 {
-    match window::window_in(sheet, background, Record::CONSTANT_SPEED, i.number) {
-        Window::Runs(hi) => match window::window_in(
+    match rest::window_in(sheet, background, Record::CONSTANT_SPEED, i.number) {
+        Window::Runs(hi) => match rest::window_in(
             sheet,
             background,
             Record::CONSTANT_SPEED,
@@ -293,7 +293,7 @@ fn decide_whole(sheet: &[u8], v: Vehicle, z: Closing) -> Decision
     if !session::any_run(sheet) {
         return Decision::Refused(Refusal::NoRun);
     }
-    let background = window::background(v.background, z.background);
+    let background = rest::background(v.background, z.background);
     let table = session::table_of(sheet, background, v.rated_speed, path_of(v));
     let lacking = table.lacking;
     if lacking < 16 {

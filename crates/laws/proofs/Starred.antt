@@ -21,7 +21,7 @@ use Rattle.records.specs.Fields.{zeros}
 use Rattle.records.specs.Layout.{vehicleTests, vehicleGood, vehicleIn, closingTests, closingGood, closingIn}
 use Rattle.run.specs.Layout.{runTests, runGood, runIn, readingFrom}
 use Rattle.sheet.specs.Examining.{wrongSize, noVehicle, noClosing, goodAt, lowestBroken, examined}
-use Rattle.window.specs.Runs.{bothSides, validOf, candidateOf, restFrom, restOf}
+use Rattle.rest.specs.Runs.{bothSides, validOf, candidateOf, restFrom, restOf}
 use Rattle.window.specs.Windows.{spanned, fitting, nobody as window·nobody, fourAt, firstPlace, firstWindow, largerSum}
 use Rattle.gears.specs.Acceleration.{accelerationOf, meanOf}
 use Rattle.gears.specs.Rules.{nobody as gears·nobody, a, firstNotFalling, apart, near, nearer, nearest, pastLast, jOf, firstBelow, oneAt, acrossOf, choiceOf, kOf}

@@ -12,7 +12,7 @@ use Rattle.records.specs.Fields.{byte}
 use Rattle.window.specs.declared.Four.{Four}
 use Rattle.window.specs.declared.Window.{Window}
 use Rattle.window.specs.declared.Window.the-variants as window
-use Rattle.window.specs.Runs.{restOf}
+use Rattle.rest.specs.Runs.{restOf}
 use Rattle.window.specs.Windows.{firstWindow}
 use Rattle.gears.specs.declared.Gear.{Gear}
 use Rattle.gears.specs.Acceleration.{accelerationOf, meanOf}

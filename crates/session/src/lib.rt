@@ -11,8 +11,8 @@ ghost use mathlib.Core.Bool.{false};
 ghost use Prim.Native.Nat.{ℕ, _+_, _≤_, _<_};
 ghost use lib.ListN.{length, getD};
 ghost use Rattle.records.specs.Records.{records};
-ghost use Rattle.window.specs.Runs.{RunsGood};
-ghost use Rattle.window.proofs.Members.{Each, Rising};
+ghost use Rattle.rest.specs.Runs.{RunsGood};
+ghost use Rattle.rest.proofs.Members.{Each, Rising};
 ghost use Rattle.session.specs.Table.{anyRun, hasRun, windowOf, within, gearAcceleration, byWindow, stateOf, Tabled, trackOf};
 
 // What becomes of a gear.
@@ -94,7 +94,7 @@ fn by_window(sheet: &[u8], background: Tenths, rated: u16, path: u16, gear: u8) 
     requires { ⌜ (1000 ≤ path) × (path ≤ 4000) ⌝ }
     ensures { λ r. ⌜ r ≡ byWindow rated path gear (windowOf (now (sheet .entry)) (background .0) 2 gear) ⌝ }
 {
-    match window::window_in(sheet, background, Record::ACCELERATION, gear) {
+    match rest::window_in(sheet, background, Record::ACCELERATION, gear) {
         Window::Runs(f) => {
             if slow_enough(f, rated) {
                 let a = acceleration(f, path);

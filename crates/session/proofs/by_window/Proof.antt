@@ -2,7 +2,7 @@
 use borrow.Author.Needs.{needs}
 use mathlib.Core.Path.{_≡_, sym, ap, _∙_}
 use Prim.Native.Nat.{ℕ}
-use Rattle.window.proofs.Members.{window-rising}
+use Rattle.rest.proofs.Members.{window-rising}
 use Rattle.session.specs.Table.{windowOf, byWindow}
 use Rattle.session.specs.declared.State.the-variants.{Remains}
 use Rattle.window.specs.declared.Window.the-variants.{Runs}

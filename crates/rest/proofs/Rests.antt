@@ -6,14 +6,14 @@ use native.Mathlib.Omega.{arith}
 use lib.ListN.{length, take, drop, set}
 use lib.Seq.{take-all}
 use Rattle.units.proofs.Gathering.{gather}
 use Rattle.window.specs.declared.ValidRun.{ValidRun}
 use Rattle.window.specs.declared.Four.{Four}
 use Rattle.window.specs.declared.Window.the-variants.{Runs, Nothing}
-use Rattle.window.specs.declared.Validity.{Validity}
-use Rattle.window.specs.declared.Validity.the-variants.{Valid, NotValid}
-use Rattle.window.specs.Runs.{candidateOf, ahead, restFrom}
+use Rattle.rest.specs.declared.Validity.{Validity}
+use Rattle.rest.specs.declared.Validity.the-variants.{Valid, NotValid}
+use Rattle.rest.specs.Runs.{candidateOf, ahead, restFrom}
 use Rattle.window.specs.Windows.{firstWindow}
 use Rattle.window.proofs.Parts.{found-in-part, carried}
 
 module _ (s : List ℕ) (background kind gear : ℕ) where
   -- record i, then the others before `end`

@@ -11,9 +11,9 @@ use Rattle.run.specs.declared.Run.{Run}
 use Rattle.records.specs.Records.{records, recordAt}
 use Rattle.records.specs.Fields.{byte}
 use Rattle.run.specs.Layout.{runGood, runIn, readingFrom}
 use Rattle.window.specs.declared.ValidRun.{ValidRun}
-use Rattle.window.specs.declared.Validity.{Validity}
-use Rattle.window.specs.declared.Validity.the-variants.{Valid, NotValid}
+use Rattle.rest.specs.declared.Validity.{Validity}
+use Rattle.rest.specs.declared.Validity.the-variants.{Valid, NotValid}
 
 -- a run whose two sides have these answers: it counts if both do
 unfoldable pub bothSides : Run → ℕ → Side → Side → Validity

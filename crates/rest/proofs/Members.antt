@@ -19,14 +19,14 @@ use Rattle.records.specs.Records.{records, recordAt}
 use Rattle.records.specs.Fields.{byte, word}
 use Rattle.run.specs.Layout.{runIn, readingFrom}
 use Rattle.run.proofs.Layouts.{run-ranges}
 use Rattle.window.specs.declared.ValidRun.{ValidRun}
 use Rattle.window.specs.declared.Four.{Four}
 use Rattle.window.specs.declared.Window.the-variants.{Runs}
-use Rattle.window.specs.declared.Validity.{Validity}
-use Rattle.window.specs.declared.Validity.the-variants.{Valid, NotValid}
-use Rattle.window.specs.Runs.{bothSides, validOf, candidateOf, ahead, restFrom, restOf, RunsGood}
+use Rattle.rest.specs.declared.Validity.{Validity}
+use Rattle.rest.specs.declared.Validity.the-variants.{Valid, NotValid}
+use Rattle.rest.specs.Runs.{bothSides, validOf, candidateOf, ahead, restFrom, restOf, RunsGood}
 use Rattle.window.specs.Windows.{nobody, fourAt, firstWindow}
 use Rattle.window.proofs.Searches.{first-is}
 
 -- a valid run v, as record n has it
 pub record Counts (s : List ℕ) (background kind gear n : ℕ) (v : ValidRun) : Type 0 where

@@ -1,22 +1,22 @@
--- `window::window_in` meets its contract: the runs that are kept, and those to come, have the window that all have. Assumes nothing.
+-- `rest::window_in` meets its contract: the runs that are kept, and those to come, have the window that all have. Assumes nothing.
 use borrow.Author.Needs.{needs}
 use mathlib.Core.Path.{_≡_, refl, sym, ap, subst, _∙_}
 use mathlib.Core.Logic.{⊎-elim}
 use native.Mathlib.Omega.{arith}
 use Prim.Native.Nat.{ℕ, _+_, _-_, _/_, _≤_, _<_}
 use lib.ListN.{length, take, length-set}
-use Rattle.window.proofs.Rests.{Sought, sought-start, sought-valid, sought-other, sought-found, sought-carried, sought-all}
+use Rattle.rest.proofs.Rests.{Sought, sought-start, sought-valid, sought-other, sought-found, sought-carried, sought-all}
 use Rattle.records.specs.Records.{records}
 use Rattle.window.specs.declared.Window.the-variants.{Runs}
-use Rattle.window.specs.Runs.{restOf, restFrom}
+use Rattle.rest.specs.Runs.{restOf, restFrom}
 use Rattle.window.specs.Windows.{firstWindow}
-use Rattle.window.proofs.window_in.Statement.{statement}
-use Rattle.window.proofs.window_in.Tie as tie
-use Rattle.window.proofs.window_in.Reads as reads
-use Rattle.window.proofs.window_in.Lts as lts
-use Rattle.window.proofs.candidate.Reads as candidate-reads
-use Rattle.window.proofs.carry.Reads as carry-reads
+use Rattle.rest.proofs.window_in.Statement.{statement}
+use Rattle.rest.proofs.window_in.Tie as tie
+use Rattle.rest.proofs.window_in.Reads as reads
+use Rattle.rest.proofs.window_in.Lts as lts
+use Rattle.rest.proofs.candidate.Reads as candidate-reads
+use Rattle.rest.proofs.carry.Reads as carry-reads
 use Rattle.window.proofs.window_of.Reads as window-of-reads
 
 abbrev Inv-loop : tie.InvT-loop
 Inv-loop sheet background kind gear last runs₀ count₀ i₀ runs count i = (length runs ≡ 16) × (count < 16) × (0 < i) × (i ≤ 1024) × Sought sheet (background .0) kind gear last runs count i

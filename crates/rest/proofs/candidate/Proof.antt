@@ -1,15 +1,15 @@
--- `window::candidate` meets its contract. Assumes nothing.
+-- `rest::candidate` meets its contract. Assumes nothing.
 use borrow.Author.Needs.{needs}
 use mathlib.Core.Path.{_≡_, ap, _∙_}
 use native.Mathlib.Omega.{arith}
 use lib.ListN.{length}
 use Rattle.records.proofs.Shown.{record-long}
 use Rattle.run.proofs.Layouts.{left-no-nan, right-no-nan}
-use Rattle.window.specs.Runs.{candidateOf, validOf}
+use Rattle.rest.specs.Runs.{candidateOf, validOf}
 use Rattle.run.specs.Layout.{runGood, runIn}
 use Rattle.run.specs.declared.Run.{Run}
-use Rattle.window.proofs.candidate.Statement.{statement}
-use Rattle.window.proofs.candidate.Tie as tie
+use Rattle.rest.proofs.candidate.Statement.{statement}
+use Rattle.rest.proofs.candidate.Tie as tie
 
 long : (c : tie.After-at) → length (c .at .result .now) ≡ 32
 long c = ap length (c .at .ensures) ∙ record-long (c .before .before .args .sheet .now) (c .before .before .args .number) (c .before .before .pre .0)

@@ -1,4 +1,4 @@
--- `window::carry` meets its contract. Assumes nothing.
+-- `rest::carry` meets its contract. Assumes nothing.
 use mathlib.Core.Path.{_≡_, refl, sym, ap, _∙_}
 use mathlib.Core.List.{List, [], _∷_}
 use Prim.Native.Nat.{ℕ, _<_}
@@ -6,9 +6,9 @@ use native.Mathlib.Omega.{arith}
 use lib.ListN.{length, getD, take, drop, set}
 use lib.Seq.{drop-cons, drop-length}
 use borrow.Author.Needs.{needs}
 use Rattle.window.specs.declared.ValidRun.{ValidRun}
-use Rattle.window.proofs.carry.Statement.{statement}
-use Rattle.window.proofs.carry.Tie as tie
+use Rattle.rest.proofs.carry.Statement.{statement}
+use Rattle.rest.proofs.carry.Tie as tie
 
 first-three : (xs : List ValidRun) (a b c : ValidRun) → 2 < length xs → take 3 (set (set (set xs 0 a) 1 b) 2 c) ≡ a ∷ b ∷ c ∷ []
 first-three [] a b c h = absurd (omega arith)

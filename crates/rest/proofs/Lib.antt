@@ -1,0 +1,3 @@
+pub mod Validities
+pub mod Rests
+pub mod Members
