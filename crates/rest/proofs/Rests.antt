@@ -1,17 +1,24 @@
 -- The first window of a gear and a run kind, record by record. Assumes nothing.
-use mathlib.Core.Path.{_≡_, refl, sym, ap, _∙_}
+use mathlib.Core.Path.{_≡_, refl, sym, ap, subst, _∙_}
+use mathlib.Core.Bool.{Bool, true, false, cond, _&&_}
 use mathlib.Core.List.{List, _++_, append-nil}
-use Prim.Native.Nat.{ℕ, suc, _+_, _-_, _≤_, _<_}
+use Prim.Native.Nat.{ℕ, zero, suc, _+_, _-_, _≤_, _<_}
 use native.Mathlib.Omega.{arith}
 use lib.ListN.{length, take, drop, set}
 use lib.Seq.{take-all}
+use lib.Dec.{eqb}
+use Rattle.units.specs.Lowest.{lowest}
+use Rattle.units.proofs.Lowest.{found}
 use Rattle.units.proofs.Gathering.{gather}
+use Rattle.records.specs.Records.{recordAt}
+use Rattle.records.specs.Fields.{byte}
+use Rattle.run.specs.Layout.{runIn}
 use Rattle.window.specs.declared.ValidRun.{ValidRun}
 use Rattle.window.specs.declared.Four.{Four}
 use Rattle.window.specs.declared.Window.the-variants.{Runs, Nothing}
 use Rattle.rest.specs.declared.Validity.{Validity}
 use Rattle.rest.specs.declared.Validity.the-variants.{Valid, NotValid}
-use Rattle.rest.specs.Runs.{candidateOf, ahead, restFrom}
+use Rattle.rest.specs.Runs.{ofGear, validOf, candidateOf, ahead, restFrom}
 use Rattle.window.specs.Windows.{firstWindow}
 use Rattle.window.proofs.Parts.{found-in-part, carried}
 
@@ -42,6 +49,33 @@ module _ (s : List ℕ) (background kind gear : ℕ) where
   pub sought-other : (end i count : ℕ) (runs : List ValidRun) → i < end → candidateOf s background kind gear i ≡ NotValid → Sought end runs count i → Sought end runs count (i + 1)
   unfolding Sought
   sought-other end i count runs h e g = ahead-is end i count runs NotValid h e g
+
+  -- records that do not name the gear are passed over
+  not-named : (n : ℕ) → ofGear s gear n ≡ false → candidateOf s background kind gear n ≡ NotValid
+  unfolding candidateOf
+  not-named n e = by (eqb (byte (recordAt s n) 0) kind) (ofGear s gear n) e
+    where
+      by : (a b : Bool) → b ≡ false → cond (a && b) (validOf (runIn (recordAt s n)) background n) NotValid ≡ NotValid
+      by true b f = rw f
+      by false b f = refl
+
+  passed-over : (end count : ℕ) (runs : List ValidRun) (k i : ℕ) → i + k ≤ end → ((n : ℕ) → i ≤ n → n < i + k → ofGear s gear n ≡ false) → Sought end runs count i → Sought end runs count (i + k)
+  passed-over end count runs zero i h none g = let here : i ≡ i + 0 = omega arith in subst (Sought end runs count) here g
+  passed-over end count runs (suc k) i h none g =
+      let next : i + 1 + k ≡ i + suc k = omega arith in
+      subst (Sought end runs count) next (passed-over end count runs k (i + 1) (omega arith) (λ n l m. none n (omega arith) (omega arith)) (sought-other end i count runs (omega arith) (not-named i (none i (omega arith) (omega arith))) g))
+
+  abbrev pub next : ℕ → ℕ → ℕ
+  next end i = lowest (ofGear s gear) (end - i) i
+
+  pub next-range : (end i : ℕ) → i ≤ end → (i ≤ next end i) × (next end i ≤ end)
+  next-range end i h = let f = found (ofGear s gear) (end - i) i in (f .least, omega (arith, f .most))
+
+  pub sought-next : (end i count : ℕ) (runs : List ValidRun) → i ≤ end → Sought end runs count i → Sought end runs count (next end i)
+  sought-next end i count runs h g =
+      let f = found (ofGear s gear) (end - i) i in
+      let place : i + (lowest (ofGear s gear) (end - i) i - i) ≡ lowest (ofGear s gear) (end - i) i = omega (arith, f .least) in
+      subst (Sought end runs count) place (passed-over end count runs (lowest (ofGear s gear) (end - i) i - i) i (omega (arith, f .most, f .least)) (λ n l m. f .before n l (omega (arith, f .least))) g)
 
   -- a window among the runs that are kept is the first of all
   pub sought-found : (end i count : ℕ) (runs : List ValidRun) (f : Four) → firstWindow (take count runs) ≡ Runs f → Sought end runs count i → Runs f ≡ firstWindow (restFrom s background kind gear 1 (end - 1))

@@ -1,7 +1,7 @@
 -- Runs that count (document 01, "From levels to windows", steps 2 to 4). Levels are in tenths of dB(A).
 use mathlib.Core.Path.{_≡_}
 use Prim.Native.Nat.{ℕ, zero, suc, _+_, _-_, _≤_, _<_}
-use mathlib.Core.Bool.{true, cond, _&&_}
+use mathlib.Core.Bool.{Bool, true, cond, _&&_}
 use mathlib.Core.List.{List, [], _∷_}
 use lib.Dec.{eqb}
 use Rattle.level.specs.declared.Side.{Side}
@@ -29,11 +29,15 @@ validOf run background n =
     cond (run .struck) NotValid
     (bothSides run n (sideOf (readingFrom (run .«left_kind») (run .left)) background) (sideOf (readingFrom (run .«right_kind») (run .right)) background))
 
+-- record n names this gear
+abbrev pub ofGear : List ℕ → ℕ → ℕ → Bool
+ofGear s gear n = eqb (byte (recordAt s n) 1) gear
+
 -- Step 4: record n as a run of a kind and a gear: valid, or set aside
 unfoldable pub candidateOf : List ℕ → ℕ → ℕ → ℕ → ℕ → Validity
 candidateOf s background kind gear n =
     let r = recordAt s n in
-    cond (eqb (byte r 0) kind && eqb (byte r 1) gear) (validOf (runIn r) background n) NotValid
+    cond (eqb (byte r 0) kind && ofGear s gear n) (validOf (runIn r) background n) NotValid
 
 -- a valid run stands before the others; one that is not is set aside
 abbrev pub ahead : Validity → List ValidRun → List ValidRun

@@ -7,12 +7,13 @@ use window::ValidRun;
 use window::Window;
 ghost use mathlib.Core.Path.{_≡_};
 ghost use mathlib.Core.Bool.{true};
-ghost use Prim.Native.Nat.{_<_, max};
+ghost use Prim.Native.Nat.{_-_, _≤_, _<_, max};
 ghost use lib.ListN.{take, drop};
 ghost use Rattle.records.specs.Records.{records, recordAt};
 ghost use Rattle.run.specs.Layout.{runGood};
 ghost use Rattle.window.specs.Windows.{firstWindow};
-ghost use Rattle.rest.specs.Runs.{validOf, candidateOf, RunsGood, restOf};
+ghost use Rattle.rest.specs.Runs.{ofGear, validOf, candidateOf, RunsGood, restOf};
+ghost use Rattle.units.specs.Lowest.{lowest};
 
 pub enum Validity {
     Valid(ValidRun),
@@ -64,6 +65,21 @@ fn candidate(sheet: &[u8], background: Tenths, kind: u8, gear: u8, number: u16) 
     }
 }
 
+// The first record that names a gear, from record `from` on and before record `last`; else `last`.
+fn next_of(sheet: &[u8], gear: u8, from: usize, last: usize) -> usize
+    requires { ⌜ (from ≤ last) × (last ≤ records (now sheet)) ⌝ }
+    ensures { λ r. ⌜ r ≡ lowest (ofGear (now (sheet .entry)) gear) (last - from) from ⌝ }
+{
+    let mut n = from;
+    while n < last {
+        if sheet[Record::SIZE * n + 1] == gear {
+            return n;
+        }
+        n += 1;
+    }
+    n
+}
+
 // A full array of runs that hold no window: the last three, which may begin one, come to the front.
 fn carry(runs: [ValidRun; 16]) -> [ValidRun; 16]
     ensures { λ r. ⌜ take 3 r ≡ drop 13 runs ⌝ }
@@ -91,7 +107,7 @@ pub fn window_in(sheet: &[u8], background: Tenths, kind: u8, gear: u8) -> Window
     };
     let mut runs = [nobody; 16];
     let mut count: usize = 0;
-    let mut i: usize = 1;
+    let mut i = next_of(sheet, gear, 1, last);
     while i < last {
         let found = candidate(sheet, background, kind, gear, i as u16);
         if let Validity::Valid(v) = found {
@@ -105,7 +121,7 @@ pub fn window_in(sheet: &[u8], background: Tenths, kind: u8, gear: u8) -> Window
             runs = carry(runs);
             count = 3;
         }
-        i += 1;
+        i = next_of(sheet, gear, i + 1, last);
     }
     window::window_of(runs, count)
 }

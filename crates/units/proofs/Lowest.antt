@@ -21,6 +21,18 @@ module _ (test : ℕ → Bool) where
   unfolding lowest
   lowest-next count n e = rw (e, lowest)
 
+  -- ---- the numbers from n to before `end`
+
+  pub lowest-found : (end n : ℕ) → n < end → test n ≡ true → lowest test (end - n) n ≡ n
+  lowest-found end n h e = let more : end - n ≡ suc (end - (n + 1)) = omega arith in rw more (lowest-here (end - (n + 1)) n e)
+
+  pub lowest-passed : (end n : ℕ) → n < end → test n ≡ false → lowest test (end - n) n ≡ lowest test (end - (n + 1)) (n + 1)
+  lowest-passed end n h e = let more : end - n ≡ suc (end - (n + 1)) = omega arith in rw (more, add-one n) (lowest-next (end - suc n) n e)
+
+  pub lowest-past : (end n : ℕ) → end ≤ n → lowest test (end - n) n ≡ n
+  unfolding lowest
+  lowest-past end n h = let none : end - n ≡ 0 = omega arith in ap (λ (k : ℕ). lowest test k n) none
+
   -- ---- a loop from 0 to before `end`: none of the numbers before i passes, so what is left decides
 
   pub Passed : ℕ → ℕ → Type 0
@@ -32,17 +44,15 @@ module _ (test : ℕ → Bool) where
 
   pub passed-next : (end i : ℕ) → i < end → test i ≡ false → Passed end i → Passed end (i + 1)
   unfolding Passed
-  passed-next end i h e p =
-      let more : end - i ≡ suc (end - (i + 1)) = omega arith in
-      p ∙ rw (more, add-one i) (lowest-next (end - suc i) i e)
+  passed-next end i h e p = p ∙ lowest-passed end i h e
 
   pub passed-stop : (end i : ℕ) → i < end → test i ≡ true → Passed end i → lowest test end 0 ≡ i
   unfolding Passed
-  passed-stop end i h e p = let more : end - i ≡ suc (end - (i + 1)) = omega arith in p ∙ rw more (lowest-here (end - (i + 1)) i e)
+  passed-stop end i h e p = p ∙ lowest-found end i h e
 
   pub passed-end : (end i : ℕ) → end ≤ i → Passed end i → lowest test end 0 ≡ i
-  unfolding Passed lowest
-  passed-end end i h p = let none : end - i ≡ 0 = omega arith in p ∙ ap (λ (n : ℕ). lowest test n i) none
+  unfolding Passed
+  passed-end end i h p = p ∙ lowest-past end i h
 
   -- ---- what it finds: no number before it passes, and it passes itself unless it is past the last
 
