@@ -23,7 +23,7 @@ use Rattle.gears.specs.declared.Gear.{Gear}
 use Rattle.gears.specs.Rules.{a, firstNotFalling, choiceOf}
 use Rattle.units.proofs.Lowest.{found}
 use Rattle.session.specs.Table.{Track, anyRun, stateOf, lacking, lowestLacking, gearsOf, windowsOf}
-use Rattle.urban.specs.declared.Reference.{Reference}
+use Rattle.weighing.specs.declared.Reference.{Reference}
 use Rattle.evaluation.specs.declared.Refusal.the-variants as refusal
 use Rattle.evaluation.specs.declared.Decision.the-variants.{Refused}
 use Rattle.evaluation.specs.Decision.{trackIn, referenceAt, gearAt, selectedIn, selectionBy, finishBy, decideGears, decideWhole, decideBy, decisionOf}

@@ -18,13 +18,13 @@ use Rattle.gears.specs.declared.Choice.the-variants as choice
 use Rattle.gears.proofs.Choices.{Selectable}
 use Rattle.gears.proofs.Accelerations.{k-most}
 use Rattle.session.specs.Table.{windowOf}
-use Rattle.urban.specs.Weighing.{basisOf}
+use Rattle.weighing.specs.Weighing.{basisOf}
 use Rattle.window.specs.Windows as windows
 use Rattle.window.specs.declared.ValidRun.{ValidRun}
-use Rattle.urban.specs.declared.Reference.{Reference}
-use Rattle.urban.specs.declared.Chosen.the-variants.{One, Pair}
-use Rattle.urban.specs.Figure as figure
-use Rattle.urban.specs.Demand.{chosenOf, Straddled}
+use Rattle.weighing.specs.declared.Reference.{Reference}
+use Rattle.weighing.specs.declared.Chosen.the-variants.{One, Pair}
+use Rattle.demand.specs.Figure as figure
+use Rattle.demand.specs.Demand.{chosenOf, Straddled}
 use Rattle.evaluation.specs.declared.Selection.{Selection}
 use Rattle.evaluation.specs.declared.Selection.the-variants.{Chosen}
 use Rattle.evaluation.specs.Decision.{Selected, lacking, gears, noFour, gearAt, windowAt, weighedGear, selectOne, selectPair, selectedIn, selectionBy}

@@ -5,7 +5,7 @@ use mathlib.Core.List.{List, [], _∷_, _++_}
 use lib.Dec.{ltb}
 use lib.ListN.{length, drop}
 use Rattle.urban.specs.declared.Outcome.{Outcome}
-use Rattle.urban.specs.Result.{flag, resultBytes}
+use Rattle.result.specs.Result.{flag, resultBytes}
 use Rattle.evaluation.specs.declared.Refusal.{Refusal}
 use Rattle.evaluation.specs.declared.Refusal.the-variants.{ShortBuffer, WrongSize, NoVehicle, NoClosing, BrokenRecord, PmrOutOfRange, NoRun, NoWindow, NotFalling, NoRule, NoConstantSpeed}
 use Rattle.evaluation.specs.declared.Decision.{Decision}

@@ -22,10 +22,10 @@ use Rattle.gears.specs.declared.Choice.the-variants as choice
 use Rattle.gears.specs.Rules.{firstNotFalling, choiceOf}
 use Rattle.gears.specs.Rules as rules
 use Rattle.session.specs.Table.{Track, anyRun, windowOf, lowestLacking, gearsOf, windowsOf}
-use Rattle.urban.specs.declared.Reference.{Reference}
+use Rattle.weighing.specs.declared.Reference.{Reference}
 use Rattle.urban.specs.Urban.{outcomeOf}
-use Rattle.urban.specs.Figure as figure
-use Rattle.urban.specs.Demand.{chosenOf}
+use Rattle.demand.specs.Figure as figure
+use Rattle.demand.specs.Demand.{chosenOf}
 use Rattle.evaluation.specs.declared.Refusal.{Refusal}
 use Rattle.evaluation.specs.declared.Refusal.the-variants as refusal
 use Rattle.evaluation.specs.declared.Selection.{Selection}

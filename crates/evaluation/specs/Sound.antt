@@ -1,7 +1,7 @@
 -- What the rules give of a selection: a pair's k is at most 1.00.
 use Prim.Native.Nat.{_≤_}
-use Rattle.urban.specs.declared.Reference.{Reference}
-use Rattle.urban.specs.Weighing.{basisOf}
+use Rattle.weighing.specs.declared.Reference.{Reference}
+use Rattle.weighing.specs.Weighing.{basisOf}
 use Rattle.evaluation.specs.declared.Selection.{Selection}
 use Rattle.evaluation.specs.declared.Selection.the-variants.{Lacking, Chosen}
 

@@ -8,11 +8,11 @@ use session::Table;
 use sheet::Examination;
 use units::Hundredths;
 use units::Tenths;
-use urban::Chosen;
-use urban::One;
 use urban::Outcome;
-use urban::Pair;
-use urban::Reference;
+use weighing::Chosen;
+use weighing::One;
+use weighing::Pair;
+use weighing::Reference;
 use window::Four;
 use window::Window;
 ghost use mathlib.Core.Path.{_≡_};
@@ -23,7 +23,7 @@ ghost use lib.ListN.{length, take};
 ghost use Rattle.sheet.specs.Examining.{examined};
 ghost use Rattle.window.specs.Runs.{RunsGood};
 ghost use Rattle.session.specs.Table.{windowOf};
-ghost use Rattle.urban.specs.Figure.{pair};
+ghost use Rattle.demand.specs.Figure.{pair};
 ghost use Rattle.evaluation.specs.Decision.{gears, weighedGear, selectOne, selectPair, selectedIn, selectionBy, finishBy, decideGears, decisionOf};
 ghost use Rattle.sheet.specs.declared.Examination.the-variants.{Whole};
 ghost use Rattle.evaluation.specs.Sound.{Weighable};
@@ -344,7 +344,7 @@ pub fn evaluate(sheet: &[u8], result: &mut [u8]) -> Answer
     match decide(sheet) {
         Decision::Refused(r) => Answer::Refused(r),
         Decision::Result(o) => {
-            urban::write(o, result);
+            result::write(o, result);
             Answer::Accepted
         }
     }

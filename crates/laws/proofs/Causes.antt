@@ -21,7 +21,7 @@ use Rattle.gears.specs.declared.Gear.{Gear}
 use Rattle.gears.specs.declared.Choice.{Choice}
 use Rattle.gears.specs.declared.Choice.the-variants as choice
 use Rattle.session.specs.Table.{Track, anyRun, lowestLacking, gearsOf, windowsOf}
-use Rattle.urban.specs.declared.Reference.{Reference}
+use Rattle.weighing.specs.declared.Reference.{Reference}
 use Rattle.gears.specs.Rules.{firstNotFalling}
 use Rattle.evaluation.specs.declared.Refusal.{Refusal}
 use Rattle.evaluation.specs.declared.Refusal.the-variants as refusal

@@ -26,9 +26,9 @@ use Rattle.window.specs.Windows.{spanned, fitting, nobody as window·nobody, fo
 use Rattle.gears.specs.Acceleration.{accelerationOf, meanOf}
 use Rattle.gears.specs.Rules.{nobody as gears·nobody, a, firstNotFalling, apart, near, nearer, nearest, pastLast, jOf, firstBelow, oneAt, acrossOf, choiceOf, kOf}
 use Rattle.session.specs.Table.{some, accelerates, anyRun, hasRun, windowOf, within, gearAcceleration, byWindow, stateOf, lowestLacking, remainingFrom, remaining, gearsOf, windowsOf}
-use Rattle.urban.specs.Demand.{chosenOf}
+use Rattle.demand.specs.Demand.{chosenOf}
 use Rattle.urban.specs.Urban.{partPower, lUrbanOf, outcomeOf}
-use Rattle.urban.specs.Weighing.{weighedLevel, basisOf}
+use Rattle.weighing.specs.Weighing.{weighedLevel, basisOf}
 use Rattle.evaluation.specs.Decision.{trackIn, referenceAt, noFour, gearAt, windowAt, weighedGear, selectOne, selectPair, selectedIn, selectionBy, finishBy, decideGears, decideWhole, decideBy, decisionOf, sheetVehicle, sheetTrack, pmrIn, choiceIn}
 use Rattle.evaluation.specs.Answer.{fieldsOf}
 use Rattle.evaluation.specs.Demand.{chosenIn, runsOf, chosenRunsBy, chosenRuns}

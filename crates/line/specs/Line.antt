@@ -3,7 +3,7 @@ use Prim.Native.Nat.{ℕ, zero, suc, _+_, _/_, _%_}
 use mathlib.Core.Bool.{cond}
 use mathlib.Core.List.{List, [], _∷_, _++_}
 use lib.Dec.{ltb}
-use Rattle.urban.specs.Result.{outcomeIn}
+use Rattle.result.specs.Result.{outcomeIn}
 use Rattle.evaluation.specs.Answer.{numberOf, placeOf, fieldsOf}
 use Rattle.evaluation.specs.declared.Answer.{Answer}
 use Rattle.evaluation.specs.declared.Answer.the-variants.{Accepted, Refused}

@@ -6,7 +6,7 @@ ghost use mathlib.Core.Path.{_≡_};
 ghost use mathlib.Core.List.{[], _∷_, _++_};
 ghost use Prim.Native.Nat.{_+_, _≤_, _<_};
 ghost use lib.ListN.{length, take};
-ghost use Rattle.urban.specs.Result.{flag};
+ghost use Rattle.result.specs.Result.{flag};
 ghost use Rattle.evaluation.specs.Answer.{numberOf, placeOf, fieldsOf};
 ghost use Rattle.line.specs.Line.{digitsOf, decimalOf, spaced, acceptedWord, refusedWord, lineOf};
 
@@ -160,7 +160,7 @@ pub fn line(answer: Answer, result: &[u8], out: &mut [u8]) -> usize
 {
     match answer {
         Answer::Accepted => {
-            let end = put_outcome(urban::read_back(result), out);
+            let end = put_outcome(result::read_back(result), out);
             put(10, out, end)
         }
         Answer::Refused(r) => {

@@ -15,7 +15,7 @@ use Rattle.line.proofs.line.Lts as lts
 use Rattle.line.proofs.put.Reads as put-reads
 use Rattle.line.proofs.put_outcome.Reads as put-outcome-reads
 use Rattle.line.proofs.put_refusal.Reads as put-refusal-reads
-use Rattle.urban.proofs.read_back.Reads as read-back-reads
+use Rattle.result.proofs.read_back.Reads as read-back-reads
 
 enum-told : tie.Need-enum-told
 enum-told c = search needs
