@@ -11,12 +11,12 @@ use Rattle.window.specs.declared.Window.{Window}
 use Rattle.window.specs.declared.Window.the-variants as window
 use Rattle.window.specs.Windows.{levelOf}
 use Rattle.gears.specs.declared.Gear.{Gear}
-use Rattle.gears.specs.Rules.{kOf}
+use Rattle.acceleration.specs.Acceleration.{kOf}
 use Rattle.gears.specs.Rules as rules
 use Rattle.gears.specs.declared.Choice.{Choice}
 use Rattle.gears.specs.declared.Choice.the-variants as choice
 use Rattle.gears.proofs.Choices.{Selectable}
-use Rattle.gears.proofs.Accelerations.{k-most}
+use Rattle.acceleration.proofs.Accelerations.{k-most}
 use Rattle.session.specs.Table.{windowOf}
 use Rattle.weighing.specs.Weighing.{basisOf}
 use Rattle.window.specs.Windows as windows

@@ -166,7 +166,7 @@ fn paired(
     requires { ⌜ (j .acceleration .0 < reference .«a_ref» .0) × (reference .«a_ref» .0 ≤ i .acceleration .0) ⌝ }
     ensures { λ r. ⌜ r ≡ selectionBy reference (gears (pair rule (weighedGear i fi hi) (weighedGear j fj hj))) ⌝ }
 {
-    let k = gears::k(reference.a_ref, i.acceleration, j.acceleration);
+    let k = acceleration::k(reference.a_ref, i.acceleration, j.acceleration);
     Selection::Chosen(Chosen::Pair(Pair {
         rule,
         i: i.number,

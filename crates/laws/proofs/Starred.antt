@@ -23,8 +23,8 @@ use Rattle.run.specs.Layout.{runTests, runGood, runIn, readingFrom}
 use Rattle.sheet.specs.Examining.{wrongSize, noVehicle, noClosing, goodAt, lowestBroken, examined}
 use Rattle.window.specs.Runs.{bothSides, validOf, candidateOf, restFrom, restOf}
 use Rattle.window.specs.Windows.{spanned, fitting, nobody as window·nobody, fourAt, firstPlace, firstWindow, largerSum}
-use Rattle.gears.specs.Acceleration.{accelerationOf, meanOf}
-use Rattle.gears.specs.Rules.{nobody as gears·nobody, a, firstNotFalling, apart, near, nearer, nearest, pastLast, jOf, firstBelow, oneAt, acrossOf, choiceOf, kOf}
+use Rattle.acceleration.specs.Acceleration.{accelerationOf, meanOf, kOf}
+use Rattle.gears.specs.Rules.{nobody as gears·nobody, a, firstNotFalling, apart, near, nearer, nearest, pastLast, jOf, firstBelow, oneAt, acrossOf, choiceOf}
 use Rattle.session.specs.Table.{some, accelerates, anyRun, hasRun, windowOf, within, gearAcceleration, byWindow, stateOf, lowestLacking, remainingFrom, remaining, gearsOf, windowsOf}
 use Rattle.demand.specs.Demand.{chosenOf}
 use Rattle.urban.specs.Urban.{partPower, lUrbanOf, outcomeOf}

@@ -15,7 +15,7 @@ use Rattle.window.specs.Windows.{firstWindow}
 use Rattle.gears.specs.declared.Gear.{Gear}
 use Rattle.gears.specs.declared.Choice.{Choice}
 use Rattle.gears.specs.declared.Choice.the-variants as choice
-use Rattle.gears.specs.Acceleration.{accelerationOf}
+use Rattle.acceleration.specs.Acceleration.{accelerationOf}
 use Rattle.gears.specs.Rules.{choiceOf}
 use Rattle.urban.specs.Urban.{lUrbanOf}
 use Rattle.evaluation.specs.declared.Decision.{Decision}

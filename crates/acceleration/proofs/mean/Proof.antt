@@ -1,10 +1,10 @@
--- `gears::mean` meets its contract. Assumes nothing.
+-- `acceleration::mean` meets its contract. Assumes nothing.
 use borrow.Author.Needs.{needs}
 use native.Mathlib.Omega.{arith}
-use Rattle.gears.specs.Acceleration.{meanOf}
-use Rattle.gears.proofs.Accelerations.{mean-most}
-use Rattle.gears.proofs.mean.Statement.{statement}
-use Rattle.gears.proofs.mean.Tie as tie
+use Rattle.acceleration.specs.Acceleration.{meanOf}
+use Rattle.acceleration.proofs.Accelerations.{mean-most}
+use Rattle.acceleration.proofs.mean.Statement.{statement}
+use Rattle.acceleration.proofs.mean.Tie as tie
 
 cast-round : tie.Need-cast-round
 cast-round c = search needs

@@ -1,14 +1,14 @@
--- `gears::run_acceleration` meets its contract. Assumes nothing.
+-- `acceleration::run_acceleration` meets its contract. Assumes nothing.
 use borrow.Author.Needs.{needs}
 use mathlib.Core.Path.{_≡_, ap₂, _∙_}
 use native.Mathlib.Omega.{arith}
 use Prim.Native.Nat.{ℕ, _-_, _*_}
 use native.Mathlib.Nat.{mul-le-mul}
-use Rattle.gears.specs.Acceleration.{accelerationOf}
+use Rattle.acceleration.specs.Acceleration.{accelerationOf}
 use Rattle.units.specs.Rounding.{rounded}
-use Rattle.gears.proofs.Accelerations.{acceleration-most}
-use Rattle.gears.proofs.run_acceleration.Statement.{statement}
-use Rattle.gears.proofs.run_acceleration.Tie as tie
+use Rattle.acceleration.proofs.Accelerations.{acceleration-most}
+use Rattle.acceleration.proofs.run_acceleration.Statement.{statement}
+use Rattle.acceleration.proofs.run_acceleration.Tie as tie
 
 right : (c : tie.After-round) → let s = c .before .before .before .args in c .round .result ≡ accelerationOf (s .start) (s .end) (s .path)
 unfolding accelerationOf

@@ -1,9 +1,9 @@
--- `gears::square` meets its contract. Assumes nothing.
+-- `acceleration::square` meets its contract. Assumes nothing.
 use mathlib.Core.Path.{refl}
 use native.Mathlib.Omega.{arith}
-use Rattle.gears.proofs.Accelerations.{square-most}
-use Rattle.gears.proofs.square.Statement.{statement}
-use Rattle.gears.proofs.square.Tie as tie
+use Rattle.acceleration.proofs.Accelerations.{square-most}
+use Rattle.acceleration.proofs.square.Statement.{statement}
+use Rattle.acceleration.proofs.square.Tie as tie
 
 mul-result : tie.Need-mul-result
 mul-result c = omega (arith, square-most (c .args .x) (c .pre))

@@ -1,10 +1,10 @@
--- `gears::k` meets its contract. Assumes nothing.
+-- `acceleration::k` meets its contract. Assumes nothing.
 use borrow.Author.Needs.{needs}
 use native.Mathlib.Omega.{arith}
-use Rattle.gears.specs.Rules.{kOf}
-use Rattle.gears.proofs.Accelerations.{k-most}
-use Rattle.gears.proofs.k.Statement.{statement}
-use Rattle.gears.proofs.k.Tie as tie
+use Rattle.acceleration.specs.Acceleration.{kOf}
+use Rattle.acceleration.proofs.Accelerations.{k-most}
+use Rattle.acceleration.proofs.k.Statement.{statement}
+use Rattle.acceleration.proofs.k.Tie as tie
 
 sub-from : tie.Need-sub-from
 sub-from c = search needs
