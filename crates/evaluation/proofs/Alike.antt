@@ -30,7 +30,7 @@ use Rattle.window.specs.declared.ValidRun.{ValidRun}
 use Rattle.window.specs.declared.Validity.the-variants.{Valid}
 use Rattle.window.specs.Runs.{candidateOf}
 use Rattle.window.proofs.Members.{counts}
-use Rattle.evaluation.specs.Decision.{trackIn, sheetVehicle, sheetTrack, pmrIn}
+use Rattle.decision.specs.Decision.{trackIn, sheetVehicle, sheetTrack, pmrIn}
 use Rattle.evaluation.specs.Demand.{ofLevel, OnlyLevels, floatAt, lower}
 
 -- ---- bytes that are none of a float's

@@ -24,12 +24,13 @@ use Rattle.demand.specs.Demand.{reported, AllNoneLower}
 use Rattle.demand.specs.Demand as numbers
 use Rattle.demand.proofs.Rising.{rising}
 use Rattle.result.proofs.Results.{at-ten}
-use Rattle.evaluation.specs.declared.Decision.{Decision}
-use Rattle.evaluation.specs.declared.Decision.the-variants as decision
+use Rattle.decision.specs.declared.Decision.{Decision}
+use Rattle.decision.specs.declared.Decision.the-variants as decision
 use Rattle.evaluation.specs.declared.Answer.the-variants as answer
-use Rattle.evaluation.specs.declared.Refusal.the-variants as refusal
+use Rattle.refusal.specs.declared.Refusal.the-variants as refusal
 use Rattle.evaluation.specs.Answer.{answerBy, answerOf, bufferBy, bufferOf}
-use Rattle.evaluation.specs.Decision.{trackIn, referenceAt, gears, decisionOf, sheetVehicle, sheetTrack}
+use Rattle.decision.specs.Decision.{trackIn, referenceAt, decisionOf, sheetVehicle, sheetTrack}
+use Rattle.selection.specs.Selection.{gears}
 use Rattle.evaluation.specs.Demand.{referenceIn, chosenIn, runsOf, chosenRunsBy, chosenRuns, NoneLower, RisesFrom}
 use Rattle.evaluation.proofs.Measured.{Measured, Measuring}
 use Rattle.evaluation.proofs.Accepted.{Accepted, closingRecord, accepted}

@@ -19,7 +19,8 @@ use Rattle.demand.specs.Figure.{figure, one, pair}
 use Rattle.demand.specs.Demand.{bound}
 use Rattle.evaluation.specs.declared.Answer.the-variants.{Accepted}
 use Rattle.evaluation.specs.Answer.{answerOf, bufferOf}
-use Rattle.evaluation.specs.Decision.{referenceAt, Selected, lacking, gears, selectedIn, sheetTrack, pmrIn, choiceIn}
+use Rattle.decision.specs.Decision.{referenceAt, sheetTrack, pmrIn, choiceIn}
+use Rattle.selection.specs.Selection.{Selected, lacking, gears, selectedIn}
 
 -- PMR, a_urban and a_ref
 unfoldable pub referenceIn : List ℕ → Reference

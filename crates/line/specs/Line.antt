@@ -4,7 +4,8 @@ use mathlib.Core.Bool.{cond}
 use mathlib.Core.List.{List, [], _∷_, _++_}
 use lib.Dec.{ltb}
 use Rattle.result.specs.Result.{outcomeIn}
-use Rattle.evaluation.specs.Answer.{numberOf, placeOf, fieldsOf}
+use Rattle.refusal.specs.Refusal.{numberOf, placeOf}
+use Rattle.evaluation.specs.Answer.{fieldsOf}
 use Rattle.evaluation.specs.declared.Answer.{Answer}
 use Rattle.evaluation.specs.declared.Answer.the-variants.{Accepted, Refused}
 

@@ -1,13 +1,14 @@
 // The line that the evaluation program prints, laid out on a lent buffer.
 use evaluation::Answer;
-use evaluation::Refusal;
+use refusal::Refusal;
 use urban::Outcome;
 ghost use mathlib.Core.Path.{_≡_};
 ghost use mathlib.Core.List.{[], _∷_, _++_};
 ghost use Prim.Native.Nat.{_+_, _≤_, _<_};
 ghost use lib.ListN.{length, take};
 ghost use Rattle.result.specs.Result.{flag};
-ghost use Rattle.evaluation.specs.Answer.{numberOf, placeOf, fieldsOf};
+ghost use Rattle.refusal.specs.Refusal.{numberOf, placeOf};
+ghost use Rattle.evaluation.specs.Answer.{fieldsOf};
 ghost use Rattle.line.specs.Line.{digitsOf, decimalOf, spaced, acceptedWord, refusedWord, lineOf};
 
 // The byte b at `at`, and the place after it.
@@ -147,8 +148,8 @@ fn put_refusal(r: Refusal, out: &mut [u8]) -> usize
     ensures { λ e. ⌜ take e (now (out .exit)) ≡ spaced refusedWord (numberOf r ∷ placeOf r ∷ []) ⌝ }
 {
     let a = put_refused(out);
-    let b = put_number(evaluation::number(r) as u64, out, a);
-    put_number(evaluation::place(r) as u64, out, b)
+    let b = put_number(refusal::number(r) as u64, out, a);
+    put_number(refusal::place(r) as u64, out, b)
 }
 
 // The line for an answer and its result buffer, with its line feed; answers how many bytes it takes.
