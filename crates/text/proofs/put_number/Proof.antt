@@ -1,16 +1,16 @@
--- `line::put_number` meets its contract. Assumes nothing.
+-- `text::put_number` meets its contract. Assumes nothing.
 use borrow.Author.Needs.{needs}
 use mathlib.Core.Path.{ap, _∙_}
 use mathlib.Core.List.{List, _++_}
 use Prim.Native.Nat.{ℕ}
 use native.Mathlib.Omega.{arith}
-use Rattle.line.specs.Line.{digitsOf, decimalOf}
-use Rattle.line.proofs.put_number.Statement.{statement}
-use Rattle.line.proofs.put_number.Tie as tie
-use Rattle.line.proofs.put_number.Reads as reads
-use Rattle.line.proofs.put_number.Lts as lts
-use Rattle.line.proofs.put.Reads as put-reads
-use Rattle.line.proofs.put_digits.Reads as put-digits-reads
+use Rattle.text.specs.Text.{digitsOf, decimalOf}
+use Rattle.text.proofs.put_number.Statement.{statement}
+use Rattle.text.proofs.put_number.Tie as tie
+use Rattle.text.proofs.put_number.Reads as reads
+use Rattle.text.proofs.put_number.Lts as lts
+use Rattle.text.proofs.put.Reads as put-reads
+use Rattle.text.proofs.put_digits.Reads as put-digits-reads
 
 put-requires : tie.Need-put-requires
 put-requires c κs = search needs

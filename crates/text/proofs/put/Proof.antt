@@ -1,4 +1,4 @@
--- `line::put` meets its contract. Assumes nothing.
+-- `text::put` meets its contract. Assumes nothing.
 use borrow.Author.Needs.{needs}
 use Prim.Native.Nat.{ℕ}
 use mathlib.Core.Path.{refl, ap, _∙_}
@@ -6,10 +6,10 @@ use native.Mathlib.Numerals.{add-one}
 use native.Mathlib.Omega.{arith}
 use lib.ListN.{take, set}
 use lib.Seq.{take-suc-set}
-use Rattle.line.proofs.put.Statement.{statement}
-use Rattle.line.proofs.put.Tie as tie
-use Rattle.line.proofs.put.Reads as reads
-use Rattle.line.proofs.put.Lts as lts
+use Rattle.text.proofs.put.Statement.{statement}
+use Rattle.text.proofs.put.Tie as tie
+use Rattle.text.proofs.put.Reads as reads
+use Rattle.text.proofs.put.Lts as lts
 
 slice-write-out : tie.Need-slice-write-out
 slice-write-out c = search needs

@@ -1,15 +1,15 @@
--- `line::put_four` meets its contract. Assumes nothing.
+-- `text::put_four` meets its contract. Assumes nothing.
 use borrow.Author.Needs.{needs}
 use mathlib.Core.Path.{ap, _∙_}
 use mathlib.Core.List.{List, [], _∷_, _++_}
 use Prim.Native.Nat.{ℕ}
 use native.Mathlib.Omega.{arith}
-use Rattle.line.specs.Line.{decimalOf, spaced}
-use Rattle.line.proofs.put_four.Statement.{statement}
-use Rattle.line.proofs.put_four.Tie as tie
-use Rattle.line.proofs.put_four.Reads as reads
-use Rattle.line.proofs.put_four.Lts as lts
-use Rattle.line.proofs.put_number.Reads as put-number-reads
+use Rattle.text.specs.Text.{decimalOf, spaced}
+use Rattle.text.proofs.put_four.Statement.{statement}
+use Rattle.text.proofs.put_four.Tie as tie
+use Rattle.text.proofs.put_four.Reads as reads
+use Rattle.text.proofs.put_four.Lts as lts
+use Rattle.text.proofs.put_number.Reads as put-number-reads
 
 put-number-requires : tie.Need-put-number-requires
 put-number-requires c κs = search needs

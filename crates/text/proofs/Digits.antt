@@ -5,7 +5,7 @@ use mathlib.Core.List.{List, [], _∷_, _++_, append-nil}
 use native.Mathlib.Nat.{not-suc-le-zero}
 use native.Mathlib.Omega.{arith}
 use borrow.Author.Tests.{lt-ltb, le-ltb}
-use Rattle.line.specs.Line.{digitsOf}
+use Rattle.text.specs.Text.{digitsOf}
 
 pub none : (s : List ℕ) (most n : ℕ) → most ≡ 0 → s ≡ s ++ digitsOf most n
 unfolding digitsOf
