@@ -20,17 +20,18 @@ use Rattle.reference.proofs.References.{a-urban-the}
 use Rattle.gears.specs.Rules.{firstNotFalling}
 use Rattle.gears.proofs.Choices.{Selectable, sound}
 use Rattle.session.specs.Table.{anyRun, lowestLacking, gearsOf, windowsOf}
-use Rattle.urban.specs.declared.Reference.{Reference}
+use Rattle.weighing.specs.declared.Reference.{Reference}
 use Rattle.urban.specs.declared.Outcome.{Outcome}
 use Rattle.urban.specs.Urban.{outcomeOf}
-use Rattle.urban.specs.Figure.{Gears}
-use Rattle.urban.specs.Demand.{chosenOf, reported, Straddled}
-use Rattle.urban.proofs.Close.{close}
-use Rattle.evaluation.specs.declared.Decision.{Decision}
-use Rattle.evaluation.specs.declared.Decision.the-variants.{Result}
-use Rattle.evaluation.specs.Decision.{trackIn, referenceAt, Selected, lacking, gears, selectionBy, finishBy, decideGears, decideWhole, decideBy, decisionOf, sheetVehicle, sheetTrack, pmrIn, choiceIn}
+use Rattle.demand.specs.Figure.{Gears}
+use Rattle.demand.specs.Demand.{chosenOf, reported, Straddled}
+use Rattle.demand.proofs.Close.{close}
+use Rattle.decision.specs.declared.Decision.{Decision}
+use Rattle.decision.specs.declared.Decision.the-variants.{Result}
+use Rattle.decision.specs.Decision.{trackIn, referenceAt, finishBy, decideGears, decideWhole, decideBy, decisionOf, sheetVehicle, sheetTrack, pmrIn, choiceIn}
+use Rattle.selection.specs.Selection.{Selected, lacking, gears, selectionBy}
 use Rattle.evaluation.specs.Demand.{referenceIn, chosenIn, figureBy, boundBy, figureOf, boundOf, CloseTo}
-use Rattle.evaluation.proofs.Selections.{Straddling, straddling}
+use Rattle.selection.proofs.Selections.{Straddling, straddling}
 use Rattle.evaluation.proofs.Measured.{Measuring, measuring}
 
 -- its closing record

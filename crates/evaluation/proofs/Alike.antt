@@ -30,7 +30,7 @@ use Rattle.window.specs.declared.ValidRun.{ValidRun}
 use Rattle.rest.specs.declared.Validity.the-variants.{Valid}
 use Rattle.rest.specs.Runs.{candidateOf}
 use Rattle.rest.proofs.Members.{counts}
-use Rattle.evaluation.specs.Decision.{trackIn, sheetVehicle, sheetTrack, pmrIn}
+use Rattle.decision.specs.Decision.{trackIn, sheetVehicle, sheetTrack, pmrIn}
 use Rattle.evaluation.specs.Demand.{ofLevel, OnlyLevels, floatAt, lower}
 
 -- ---- bytes that are none of a float's

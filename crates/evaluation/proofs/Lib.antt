@@ -1,5 +1,3 @@
-pub mod Selections
-pub mod Decisions
 pub mod Measured
 pub mod Accepted
 pub mod Alike

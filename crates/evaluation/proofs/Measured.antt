@@ -14,8 +14,8 @@ use Rattle.gears.specs.Rules as rules
 use Rattle.gears.proofs.Choices.{Selectable}
 use Rattle.session.specs.Table.{Track, windowOf, gearAcceleration, gearsOf, windowsOf}
 use Rattle.session.proofs.Entries.{Remaining, remaining-at}
-use Rattle.urban.specs.Figure as figure
-use Rattle.evaluation.specs.Decision.{Selected, lacking, gears, noFour, gearAt, windowAt, weighedGear, selectOne, selectPair, selectedIn}
+use Rattle.demand.specs.Figure as figure
+use Rattle.selection.specs.Selection.{Selected, lacking, gears, noFour, gearAt, windowAt, weighedGear, selectOne, selectPair, selectedIn}
 
 -- a chosen gear: its acceleration window f and its constant-speed window h, and what they give
 pub record Measured (t : Track) (g : figure.Gear) : Type 0 where

@@ -17,19 +17,20 @@ use Rattle.window.specs.Windows.{largerSum}
 use Rattle.rest.proofs.Members.{Member, window-members}
 use Rattle.session.specs.Table.{windowOf, gearAcceleration}
 use Rattle.urban.specs.declared.Outcome.{Outcome}
-use Rattle.urban.specs.declared.Reference.{Reference}
-use Rattle.urban.specs.Figure.{Gears, one, pair}
-use Rattle.urban.specs.Figure as figure
-use Rattle.urban.specs.Demand.{reported, AllNoneLower}
-use Rattle.urban.specs.Demand as numbers
-use Rattle.urban.proofs.Rising.{rising}
-use Rattle.urban.proofs.Results.{at-ten}
-use Rattle.evaluation.specs.declared.Decision.{Decision}
-use Rattle.evaluation.specs.declared.Decision.the-variants as decision
+use Rattle.weighing.specs.declared.Reference.{Reference}
+use Rattle.demand.specs.Figure.{Gears, one, pair}
+use Rattle.demand.specs.Figure as figure
+use Rattle.demand.specs.Demand.{reported, AllNoneLower}
+use Rattle.demand.specs.Demand as numbers
+use Rattle.demand.proofs.Rising.{rising}
+use Rattle.result.proofs.Results.{at-ten}
+use Rattle.decision.specs.declared.Decision.{Decision}
+use Rattle.decision.specs.declared.Decision.the-variants as decision
 use Rattle.evaluation.specs.declared.Answer.the-variants as answer
-use Rattle.evaluation.specs.declared.Refusal.the-variants as refusal
+use Rattle.refusal.specs.declared.Refusal.the-variants as refusal
 use Rattle.evaluation.specs.Answer.{answerBy, answerOf, bufferBy, bufferOf}
-use Rattle.evaluation.specs.Decision.{trackIn, referenceAt, gears, decisionOf, sheetVehicle, sheetTrack}
+use Rattle.decision.specs.Decision.{trackIn, referenceAt, decisionOf, sheetVehicle, sheetTrack}
+use Rattle.selection.specs.Selection.{gears}
 use Rattle.evaluation.specs.Demand.{referenceIn, chosenIn, runsOf, chosenRunsBy, chosenRuns, NoneLower, RisesFrom}
 use Rattle.evaluation.proofs.Measured.{Measured, Measuring}
 use Rattle.evaluation.proofs.Accepted.{Accepted, closingRecord, accepted}

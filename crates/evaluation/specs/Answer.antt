@@ -5,42 +5,14 @@ use mathlib.Core.List.{List, [], _∷_, _++_}
 use lib.Dec.{ltb}
 use lib.ListN.{length, drop}
 use Rattle.urban.specs.declared.Outcome.{Outcome}
-use Rattle.urban.specs.Result.{flag, resultBytes}
-use Rattle.evaluation.specs.declared.Refusal.{Refusal}
-use Rattle.evaluation.specs.declared.Refusal.the-variants.{ShortBuffer, WrongSize, NoVehicle, NoClosing, BrokenRecord, PmrOutOfRange, NoRun, NoWindow, NotFalling, NoRule, NoConstantSpeed}
-use Rattle.evaluation.specs.declared.Decision.{Decision}
-use Rattle.evaluation.specs.declared.Decision.the-variants as decision
+use Rattle.result.specs.Result.{flag, resultBytes}
+use Rattle.refusal.specs.declared.Refusal.{Refusal}
+use Rattle.refusal.specs.declared.Refusal.the-variants.{ShortBuffer}
+use Rattle.decision.specs.declared.Decision.{Decision}
+use Rattle.decision.specs.declared.Decision.the-variants as decision
 use Rattle.evaluation.specs.declared.Answer.{Answer}
 use Rattle.evaluation.specs.declared.Answer.the-variants.{Accepted, Refused}
-use Rattle.evaluation.specs.Decision.{decisionOf}
-
--- the table's number of a refusal
-abbrev pub numberOf : Refusal → ℕ
-numberOf ShortBuffer = 1
-numberOf WrongSize = 2
-numberOf NoVehicle = 3
-numberOf (NoClosing n) = 4
-numberOf (BrokenRecord n) = 5
-numberOf PmrOutOfRange = 6
-numberOf NoRun = 7
-numberOf (NoWindow g) = 7
-numberOf (NotFalling g) = 8
-numberOf NoRule = 9
-numberOf (NoConstantSpeed g) = 10
-
--- and its place: 0, a record or a gear
-abbrev pub placeOf : Refusal → ℕ
-placeOf ShortBuffer = 0
-placeOf WrongSize = 0
-placeOf NoVehicle = 0
-placeOf (NoClosing n) = n
-placeOf (BrokenRecord n) = n
-placeOf PmrOutOfRange = 0
-placeOf NoRun = 0
-placeOf (NoWindow g) = g
-placeOf (NotFalling g) = g
-placeOf NoRule = 0
-placeOf (NoConstantSpeed g) = g
+use Rattle.decision.specs.Decision.{decisionOf}
 
 unfoldable pub answerBy : Decision → Answer
 answerBy (decision.Refused r) = Refused r

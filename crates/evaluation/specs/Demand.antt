@@ -13,13 +13,14 @@ use Rattle.records.specs.Fields.{byte}
 use Rattle.window.specs.declared.Window.{Window}
 use Rattle.window.specs.declared.Window.the-variants as window
 use Rattle.session.specs.Table.{Track, windowOf, gearsOf, windowsOf}
-use Rattle.urban.specs.declared.Reference.{Reference}
-use Rattle.urban.specs.Fractions.{Frac, _over_, apart, _≼_}
-use Rattle.urban.specs.Figure.{figure, one, pair}
-use Rattle.urban.specs.Demand.{bound}
+use Rattle.weighing.specs.declared.Reference.{Reference}
+use Rattle.demand.specs.Fractions.{Frac, _over_, apart, _≼_}
+use Rattle.demand.specs.Figure.{figure, one, pair}
+use Rattle.demand.specs.Demand.{bound}
 use Rattle.evaluation.specs.declared.Answer.the-variants.{Accepted}
 use Rattle.evaluation.specs.Answer.{answerOf, bufferOf}
-use Rattle.evaluation.specs.Decision.{referenceAt, Selected, lacking, gears, selectedIn, sheetTrack, pmrIn, choiceIn}
+use Rattle.decision.specs.Decision.{referenceAt, sheetTrack, pmrIn, choiceIn}
+use Rattle.selection.specs.Selection.{Selected, lacking, gears, selectedIn}
 
 -- PMR, a_urban and a_ref
 unfoldable pub referenceIn : List ℕ → Reference

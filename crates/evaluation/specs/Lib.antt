@@ -1,4 +1,2 @@
-pub mod Decision
-pub mod Sound
 pub mod Answer
 pub mod Demand

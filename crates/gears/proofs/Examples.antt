@@ -1,16 +1,14 @@
--- The driven examples of document 01 on accelerations and gears, and their ties, computed from the definitions. Assumes nothing.
+-- The driven examples of document 01 on gears, and their ties, computed from the definitions. Assumes nothing.
 use mathlib.Core.Bool.{Bool, true, false, _&&_}
 use mathlib.Core.List.{List, [], _∷_, map}
 use Prim.Native.Nat.{ℕ}
 use lib.Dec.{T, eqb}
-use Rattle.units.specs.Rounding.{rounded}
 use Rattle.units.specs.Lowest.{lowest}
 use Rattle.units.specs.Tests.{allOf}
 use Rattle.gears.specs.declared.Gear.{Gear}
 use Rattle.gears.specs.declared.Choice.{Choice}
 use Rattle.gears.specs.declared.Choice.the-variants.{One, Pair, Nothing}
-use Rattle.gears.specs.Acceleration.{accelerationOf, meanOf}
-use Rattle.gears.specs.Rules.{nobody, a, firstNotFalling, apart, near, nearer, nearest, pastLast, jOf, firstBelow, oneAt, acrossOf, choiceOf, kOf}
+use Rattle.gears.specs.Rules.{nobody, a, firstNotFalling, apart, near, nearer, nearest, pastLast, jOf, firstBelow, oneAt, acrossOf, choiceOf}
 
 same : Choice → Choice → Bool
 same (One r p) (One s q) = eqb r s && eqb p q
@@ -31,25 +29,15 @@ data Example : Type 0 where
   chosen : ℕ → ℕ → List ℕ → Choice → Example
   -- the first place that does not fall
   falling : List ℕ → ℕ → Example
-  -- start, BB', path and the acceleration
-  run : ℕ → ℕ → ℕ → ℕ → Example
-  -- R, a(i), a(j) and k
-  weight : ℕ → ℕ → ℕ → ℕ → Example
 
 holds : Example → Bool
 holds (chosen R u xs c) = same (choiceOf R u (gears xs)) c
 holds (falling xs p) = eqb (firstNotFalling (gears xs)) p
-holds (run A B path x) = eqb (accelerationOf A B path) x
-holds (weight R i j k) = eqb (kOf R i j) k
 
 examples : List Example
 examples =
-    -- length 450, AA' 44.0, BB' 56.0: 1.89; from PP' the path is shorter; no gain is no acceleration
-    run 440 560 2450 189
-    ∷ run 440 560 1450 319
-    ∷ run 500 500 2450 0
     -- R 1.49, gears 1.56 and 1.42: the first, alone
-    ∷ chosen 149 106 (156 ∷ 142 ∷ []) (One 2 0)
+    chosen 149 106 (156 ∷ 142 ∷ []) (One 2 0)
     -- equal distances on both sides of R: the lower number
     ∷ chosen 150 100 (155 ∷ 145 ∷ []) (One 2 0)
     -- the second is nearer
@@ -76,12 +64,8 @@ examples =
     -- equal neighbours do not fall
     ∷ falling (200 ∷ 150 ∷ 150 ∷ 100 ∷ []) 1
     ∷ falling (200 ∷ 150 ∷ 100 ∷ []) 2
-    -- k: the worked sheet's, both ends, and a half that goes up
-    ∷ weight 149 160 110 78
-    ∷ weight 110 110 100 100
-    ∷ weight 101 300 100 1
     ∷ []
 
 every-holds : T (allOf (map holds examples))
-unfolding same gears holds examples accelerationOf meanOf rounded lowest nobody a firstNotFalling apart near nearer nearest pastLast jOf firstBelow oneAt acrossOf choiceOf kOf
+unfolding same gears holds examples lowest nobody a firstNotFalling apart near nearer nearest pastLast jOf firstBelow oneAt acrossOf choiceOf
 every-holds = tt

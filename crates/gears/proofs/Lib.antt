@@ -1,4 +1,3 @@
-pub mod Accelerations
 pub mod Places
 pub mod Nearest
 pub mod Choices

@@ -1,2 +1,1 @@
-pub mod Acceleration
 pub mod Rules

@@ -5,7 +5,6 @@ use mathlib.Core.Bool.{Bool, true, false, cond, _&&_, _||_}
 use mathlib.Core.List.{List}
 use lib.Dec.{leb, ltb, eqb}
 use lib.ListN.{length, getD}
-use Rattle.units.specs.Rounding.{rounded}
 use Rattle.units.specs.Lowest.{lowest}
 use Rattle.gears.specs.declared.Gear.{Gear}
 use Rattle.gears.specs.declared.Choice.{Choice}
@@ -74,7 +73,3 @@ choiceOf R u gears =
     cond (eqb (length gears) 0) Nothing
     (cond (eqb (length gears) 1) (One 1 0)
     (cond (ltb (nearest R gears) (length gears)) (One 2 (nearest R gears)) (acrossOf u gears (jOf R gears))))
-
--- the weight of gear i in a pair: k = (R − a(j)) / (a(i) − a(j)), rounded to hundredths
-unfoldable pub kOf : ℕ → ℕ → ℕ → ℕ
-kOf R ai aj = rounded (100 * (R - aj)) (ai - aj)

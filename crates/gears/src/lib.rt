@@ -1,12 +1,11 @@
-// Gears: accelerations, and the rules that decide which gear or pair of gears counts. No level comes in here.
+// Gears: neighbours that do not fall, and the rules that decide which gear or pair of gears counts. No level comes in here.
 use units::Hundredths;
 ghost use mathlib.Core.Path.{_≡_};
 ghost use mathlib.Core.Bool.{cond, _&&_};
 ghost use Prim.Native.Nat.{_+_, _-_, _*_, _≤_, _<_};
 ghost use lib.Dec.{ltb};
 ghost use lib.ListN.{take};
-ghost use Rattle.gears.specs.Acceleration.{accelerationOf, meanOf};
-ghost use Rattle.gears.specs.Rules.{firstNotFalling, apart, near, nearest, jOf, firstBelow, acrossOf, choiceOf, kOf};
+ghost use Rattle.gears.specs.Rules.{firstNotFalling, apart, near, nearest, jOf, firstBelow, acrossOf, choiceOf};
 
 // A gear that remains.
 pub struct Gear {
@@ -28,30 +27,6 @@ pub const GEARS: usize = 16;
 
 // 3.00 m/s², above which a gear is not chosen by itself.
 const CEILING: u16 = 300;
-
-fn square(x: u16) -> u32
-    requires { ⌜ x ≤ 1500 ⌝ }
-    ensures { λ r. ⌜ (r ≡ x * x) × (r ≤ 2250000) ⌝ }
-{
-    x as u32 * x as u32
-}
-
-// A run's acceleration, from its speeds in tenths of km/h and its path in cm.
-pub fn run_acceleration(start: u16, end: u16, path: u16) -> Hundredths
-    requires { ⌜ (start ≤ end) × (end ≤ 1500) ⌝ }
-    requires { ⌜ (1000 ≤ path) × (path ≤ 4000) ⌝ }
-    ensures { λ r. ⌜ r .0 ≡ accelerationOf start end path ⌝ }
-{
-    let gained = square(end) - square(start);
-    Hundredths(units::round(625 * gained, 162 * path as u32) as u16)
-}
-
-// A gear's acceleration: the mean of four, rounded.
-pub fn mean(a: Hundredths, b: Hundredths, c: Hundredths, d: Hundredths) -> Hundredths
-    ensures { λ r. ⌜ r .0 ≡ meanOf (a .0) (b .0) (c .0) (d .0) ⌝ }
-{
-    Hundredths(units::round(a.0 as u32 + b.0 as u32 + c.0 as u32 + d.0 as u32, 4) as u16)
-}
 
 // The first of the first `count` gears whose acceleration is not above the next one's; count - 1 if there is none.
 pub fn first_not_falling(gears: [Gear; 16], count: usize) -> usize
@@ -194,14 +169,4 @@ pub fn choose(gears: [Gear; 16], count: usize, reference: Hundredths, urban: Hun
         return Choice::One(2, nearest);
     }
     across(gears, count, urban.0, j_place(gears, count, reference.0))
-}
-
-// The weight of gear i in a pair, in hundredths.
-pub fn k(reference: Hundredths, i: Hundredths, j: Hundredths) -> u8
-    requires { ⌜ (j .0 < reference .0) × (reference .0 ≤ i .0) ⌝ }
-    ensures { λ r. ⌜ r ≡ kOf (reference .0) (i .0) (j .0) ⌝ }
-{
-    let from = (reference.0 - j.0) as u32;
-    let whole = (i.0 - j.0) as u32;
-    units::round(100 * from, whole) as u8
 }

@@ -21,15 +21,17 @@ use Rattle.gears.specs.declared.Gear.{Gear}
 use Rattle.gears.specs.declared.Choice.{Choice}
 use Rattle.gears.specs.declared.Choice.the-variants as choice
 use Rattle.session.specs.Table.{Track, anyRun, lowestLacking, gearsOf, windowsOf}
-use Rattle.urban.specs.declared.Reference.{Reference}
+use Rattle.weighing.specs.declared.Reference.{Reference}
 use Rattle.gears.specs.Rules.{firstNotFalling}
-use Rattle.evaluation.specs.declared.Refusal.{Refusal}
-use Rattle.evaluation.specs.declared.Refusal.the-variants as refusal
-use Rattle.evaluation.specs.declared.Decision.{Decision}
-use Rattle.evaluation.specs.declared.Decision.the-variants as decision
+use Rattle.refusal.specs.declared.Refusal.{Refusal}
+use Rattle.refusal.specs.declared.Refusal.the-variants as refusal
+use Rattle.decision.specs.declared.Decision.{Decision}
+use Rattle.decision.specs.declared.Decision.the-variants as decision
 use Rattle.evaluation.specs.declared.Answer.the-variants as answer
-use Rattle.evaluation.specs.Answer.{numberOf, answerBy, answerOf}
-use Rattle.evaluation.specs.Decision.{trackIn, referenceAt, selectOne, selectPair, selectedIn, selectionBy, finishBy, decideGears, decideWhole, decideBy, decisionOf, sheetVehicle, sheetTrack, pmrIn, choiceIn}
+use Rattle.refusal.specs.Refusal.{numberOf}
+use Rattle.evaluation.specs.Answer.{answerBy, answerOf}
+use Rattle.decision.specs.Decision.{trackIn, referenceAt, finishBy, decideGears, decideWhole, decideBy, decisionOf, sheetVehicle, sheetTrack, pmrIn, choiceIn}
+use Rattle.selection.specs.Selection.{selectOne, selectPair, selectedIn, selectionBy}
 use Rattle.laws.specs.Causes.{undecided, missing, unmeasuredAt, unmeasured, causes, refusalNumber, First}
 
 -- ---- the first test that holds

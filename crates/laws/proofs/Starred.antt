@@ -23,13 +23,14 @@ use Rattle.run.specs.Layout.{runTests, runGood, runIn, readingFrom}
 use Rattle.sheet.specs.Examining.{wrongSize, noVehicle, noClosing, goodAt, lowestBroken, examined}
 use Rattle.rest.specs.Runs.{bothSides, validOf, candidateOf, restFrom, restOf}
 use Rattle.window.specs.Windows.{spanned, fitting, nobody as window·nobody, fourAt, firstPlace, firstWindow, largerSum}
-use Rattle.gears.specs.Acceleration.{accelerationOf, meanOf}
-use Rattle.gears.specs.Rules.{nobody as gears·nobody, a, firstNotFalling, apart, near, nearer, nearest, pastLast, jOf, firstBelow, oneAt, acrossOf, choiceOf, kOf}
+use Rattle.acceleration.specs.Acceleration.{accelerationOf, meanOf, kOf}
+use Rattle.gears.specs.Rules.{nobody as gears·nobody, a, firstNotFalling, apart, near, nearer, nearest, pastLast, jOf, firstBelow, oneAt, acrossOf, choiceOf}
 use Rattle.session.specs.Table.{some, accelerates, anyRun, hasRun, windowOf, within, gearAcceleration, byWindow, stateOf, lowestLacking, remainingFrom, remaining, gearsOf, windowsOf}
-use Rattle.urban.specs.Demand.{chosenOf}
+use Rattle.demand.specs.Demand.{chosenOf}
 use Rattle.urban.specs.Urban.{partPower, lUrbanOf, outcomeOf}
-use Rattle.urban.specs.Weighing.{weighedLevel, basisOf}
-use Rattle.evaluation.specs.Decision.{trackIn, referenceAt, noFour, gearAt, windowAt, weighedGear, selectOne, selectPair, selectedIn, selectionBy, finishBy, decideGears, decideWhole, decideBy, decisionOf, sheetVehicle, sheetTrack, pmrIn, choiceIn}
+use Rattle.weighing.specs.Weighing.{weighedLevel, basisOf}
+use Rattle.decision.specs.Decision.{trackIn, referenceAt, finishBy, decideGears, decideWhole, decideBy, decisionOf, sheetVehicle, sheetTrack, pmrIn, choiceIn}
+use Rattle.selection.specs.Selection.{noFour, gearAt, windowAt, weighedGear, selectOne, selectPair, selectedIn, selectionBy}
 use Rattle.evaluation.specs.Answer.{fieldsOf}
 use Rattle.evaluation.specs.Demand.{chosenIn, runsOf, chosenRunsBy, chosenRuns}
 use Rattle.laws.specs.Starred.{Example, gives, shouldGive, Holds, starred, workedSheet}

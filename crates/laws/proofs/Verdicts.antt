@@ -8,14 +8,14 @@ use Prim.Native.Nat.{ℕ}
 use native.Mathlib.Omega.{arith}
 use lib.Dec.{ltb}
 use lib.ListN.{length}
-use Rattle.evaluation.specs.declared.Refusal.{Refusal}
-use Rattle.evaluation.specs.declared.Decision.{Decision}
-use Rattle.evaluation.specs.declared.Decision.the-variants as decision
+use Rattle.refusal.specs.declared.Refusal.{Refusal}
+use Rattle.decision.specs.declared.Decision.{Decision}
+use Rattle.decision.specs.declared.Decision.the-variants as decision
 use Rattle.evaluation.specs.declared.Answer.{Answer}
 use Rattle.evaluation.specs.declared.Answer.the-variants as answer
-use Rattle.evaluation.specs.declared.Refusal.the-variants as refusal
+use Rattle.refusal.specs.declared.Refusal.the-variants as refusal
 use Rattle.evaluation.specs.Answer.{answerBy, answerOf, bufferBy, bufferOf}
-use Rattle.evaluation.specs.Decision.{decisionOf}
+use Rattle.decision.specs.Decision.{decisionOf}
 use Rattle.laws.specs.Verdict.{IsAccepted, IsRefused, HasLUrban}
 
 pub one-holds : (s : List ℕ) (size : ℕ) → IsAccepted s size ⊎ IsRefused s size

@@ -15,8 +15,9 @@ use Rattle.gears.specs.Rules.{firstNotFalling}
 use Rattle.session.specs.Table.{Track, anyRun, windowOf, lowestLacking, gearsOf}
 use Rattle.evaluation.specs.declared.Answer.{Answer}
 use Rattle.evaluation.specs.declared.Answer.the-variants.{Accepted, Refused}
-use Rattle.evaluation.specs.Answer.{numberOf}
-use Rattle.evaluation.specs.Decision.{gearAt, sheetTrack, pmrIn, choiceIn}
+use Rattle.refusal.specs.Refusal.{numberOf}
+use Rattle.selection.specs.Selection.{gearAt}
+use Rattle.decision.specs.Decision.{sheetTrack, pmrIn, choiceIn}
 
 -- no gear remains, or no rule applies
 abbrev pub undecided : Choice → Bool

@@ -15,13 +15,14 @@ use Rattle.window.specs.Windows.{firstWindow}
 use Rattle.gears.specs.declared.Gear.{Gear}
 use Rattle.gears.specs.declared.Choice.{Choice}
 use Rattle.gears.specs.declared.Choice.the-variants as choice
-use Rattle.gears.specs.Acceleration.{accelerationOf}
+use Rattle.acceleration.specs.Acceleration.{accelerationOf}
 use Rattle.gears.specs.Rules.{choiceOf}
 use Rattle.urban.specs.Urban.{lUrbanOf}
-use Rattle.evaluation.specs.declared.Decision.{Decision}
-use Rattle.evaluation.specs.declared.Decision.the-variants as decision
-use Rattle.evaluation.specs.Answer.{numberOf, placeOf, fieldsOf}
-use Rattle.evaluation.specs.Decision.{decisionOf}
+use Rattle.decision.specs.declared.Decision.{Decision}
+use Rattle.decision.specs.declared.Decision.the-variants as decision
+use Rattle.refusal.specs.Refusal.{numberOf, placeOf}
+use Rattle.evaluation.specs.Answer.{fieldsOf}
+use Rattle.decision.specs.Decision.{decisionOf}
 use Rattle.evaluation.specs.Demand.{numbersIn}
 
 pub data Example : Type 0 where

@@ -3,11 +3,11 @@ use mathlib.Core.Path.{_≡_}
 use Prim.Native.Nat.{ℕ}
 use mathlib.Core.List.{List}
 use Rattle.urban.specs.declared.Outcome.{Outcome}
-use Rattle.evaluation.specs.declared.Refusal.{Refusal}
-use Rattle.evaluation.specs.declared.Decision.the-variants as decision
+use Rattle.refusal.specs.declared.Refusal.{Refusal}
+use Rattle.decision.specs.declared.Decision.the-variants as decision
 use Rattle.evaluation.specs.declared.Answer.the-variants as answer
 use Rattle.evaluation.specs.Answer.{answerOf}
-use Rattle.evaluation.specs.Decision.{decisionOf}
+use Rattle.decision.specs.Decision.{decisionOf}
 
 -- with a result buffer of this size
 abbrev pub IsAccepted : List ℕ → ℕ → Type 0

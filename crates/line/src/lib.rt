@@ -1,50 +1,16 @@
 // The line that the evaluation program prints, laid out on a lent buffer.
 use evaluation::Answer;
-use evaluation::Refusal;
+use refusal::Refusal;
 use urban::Outcome;
 ghost use mathlib.Core.Path.{_≡_};
-ghost use mathlib.Core.List.{[], _∷_, _++_};
-ghost use Prim.Native.Nat.{_+_, _≤_, _<_};
+ghost use mathlib.Core.List.{[], _∷_};
+ghost use Prim.Native.Nat.{_+_, _≤_};
 ghost use lib.ListN.{length, take};
-ghost use Rattle.urban.specs.Result.{flag};
-ghost use Rattle.evaluation.specs.Answer.{numberOf, placeOf, fieldsOf};
-ghost use Rattle.line.specs.Line.{digitsOf, decimalOf, spaced, acceptedWord, refusedWord, lineOf};
-
-// The byte b at `at`, and the place after it.
-fn put(b: u8, out: &mut [u8], at: usize) -> usize
-    requires { ⌜ at < length (now out) ⌝ }
-    ensures { λ r. ⌜ r ≡ at + 1 ⌝ }
-    ensures { λ r. ⌜ take r (now (out .exit)) ≡ take at (now (out .entry)) ++ (b ∷ []) ⌝ }
-{
-    out[at] = b;
-    at + 1
-}
-
-// The digits of n, the last `most` at the most. Recursive, since the most significant digit goes first.
-fn put_digits(n: u64, most: usize, out: &mut [u8], at: usize) -> usize
-    requires { ⌜ at + most ≤ length (now out) ⌝ }
-    ensures { λ r. ⌜ r ≤ at + most ⌝ }
-    ensures { λ r. ⌜ take r (now (out .exit)) ≡ take at (now (out .entry)) ++ digitsOf most n ⌝ }
-{
-    if most == 0 {
-        at
-    } else if n < 10 {
-        put(48 + n as u8, out, at)
-    } else {
-        let end = put_digits(n / 10, most - 1, out, at);
-        put(48 + (n % 10) as u8, out, end)
-    }
-}
-
-// A space and the digits of n: at most 21 bytes.
-fn put_number(n: u64, out: &mut [u8], at: usize) -> usize
-    requires { ⌜ at + 21 ≤ length (now out) ⌝ }
-    ensures { λ r. ⌜ r ≤ at + 21 ⌝ }
-    ensures { λ r. ⌜ take r (now (out .exit)) ≡ (take at (now (out .entry)) ++ (32 ∷ [])) ++ decimalOf n ⌝ }
-{
-    let next = put(32, out, at);
-    put_digits(n, 20, out, next)
-}
+ghost use Rattle.result.specs.Result.{flag};
+ghost use Rattle.refusal.specs.Refusal.{numberOf, placeOf};
+ghost use Rattle.evaluation.specs.Answer.{fieldsOf};
+ghost use Rattle.text.specs.Text.{spaced};
+ghost use Rattle.line.specs.Line.{acceptedWord, refusedWord, lineOf};
 
 fn flag_of(pass: bool) -> u64
     ensures { λ r. ⌜ r ≡ flag pass ⌝ }
@@ -52,25 +18,13 @@ fn flag_of(pass: bool) -> u64
     if pass { 1 } else { 0 }
 }
 
-// Four numbers, each after a space.
-fn put_four(a: u64, b: u64, c: u64, d: u64, out: &mut [u8], at: usize) -> usize
-    requires { ⌜ at + 84 ≤ length (now out) ⌝ }
-    ensures { λ r. ⌜ r ≤ at + 84 ⌝ }
-    ensures { λ r. ⌜ take r (now (out .exit)) ≡ spaced (take at (now (out .entry))) (a ∷ b ∷ c ∷ d ∷ []) ⌝ }
-{
-    let e = put_number(a, out, at);
-    let f = put_number(b, out, e);
-    let g = put_number(c, out, f);
-    put_number(d, out, g)
-}
-
 fn put_ok(out: &mut [u8]) -> usize
     requires { ⌜ 2 ≤ length (now out) ⌝ }
     ensures { λ r. ⌜ r ≡ 2 ⌝ }
     ensures { λ r. ⌜ take r (now (out .exit)) ≡ acceptedWord ⌝ }
 {
-    let a = put(b'O', out, 0);
-    put(b'K', out, a)
+    let a = text::put(b'O', out, 0);
+    text::put(b'K', out, a)
 }
 
 fn put_refused(out: &mut [u8]) -> usize
@@ -78,13 +32,13 @@ fn put_refused(out: &mut [u8]) -> usize
     ensures { λ r. ⌜ r ≡ 7 ⌝ }
     ensures { λ r. ⌜ take r (now (out .exit)) ≡ refusedWord ⌝ }
 {
-    let a = put(b'R', out, 0);
-    let b = put(b'E', out, a);
-    let c = put(b'F', out, b);
-    let d = put(b'U', out, c);
-    let e = put(b'S', out, d);
-    let f = put(b'E', out, e);
-    put(b'D', out, f)
+    let a = text::put(b'R', out, 0);
+    let b = text::put(b'E', out, a);
+    let c = text::put(b'F', out, b);
+    let d = text::put(b'U', out, c);
+    let e = text::put(b'S', out, d);
+    let f = text::put(b'E', out, e);
+    text::put(b'D', out, f)
 }
 
 // The 12 fields other than pass, four at a time, which keeps each proof short.
@@ -93,7 +47,7 @@ fn put_basis(o: Outcome, out: &mut [u8], at: usize) -> usize
     ensures { λ r. ⌜ r ≤ at + 84 ⌝ }
     ensures { λ r. ⌜ take r (now (out .exit)) ≡ spaced (take at (now (out .entry))) (o .rule ∷ o .i ∷ o .j ∷ o .k ∷ []) ⌝ }
 {
-    put_four(o.rule as u64, o.i as u64, o.j as u64, o.k as u64, out, at)
+    text::put_four(o.rule as u64, o.i as u64, o.j as u64, o.k as u64, out, at)
 }
 
 fn put_levels(o: Outcome, out: &mut [u8], at: usize) -> usize
@@ -101,7 +55,7 @@ fn put_levels(o: Outcome, out: &mut [u8], at: usize) -> usize
     ensures { λ r. ⌜ r ≤ at + 84 ⌝ }
     ensures { λ r. ⌜ take r (now (out .exit)) ≡ spaced (take at (now (out .entry))) (o .kp ∷ o .w .0 ∷ o .c .0 ∷ o .«l_urban» ∷ []) ⌝ }
 {
-    put_four(
+    text::put_four(
         o.kp as u64,
         o.w.0 as u64,
         o.c.0 as u64,
@@ -116,7 +70,7 @@ fn put_rest(o: Outcome, out: &mut [u8], at: usize) -> usize
     ensures { λ r. ⌜ r ≤ at + 84 ⌝ }
     ensures { λ r. ⌜ take r (now (out .exit)) ≡ spaced (take at (now (out .entry))) (o .«a_urban» .0 ∷ o .«a_ref» .0 ∷ o .pmr ∷ o .a .0 ∷ []) ⌝ }
 {
-    put_four(
+    text::put_four(
         o.a_urban.0 as u64,
         o.a_ref.0 as u64,
         o.pmr as u64,
@@ -137,7 +91,7 @@ fn put_outcome(o: Outcome, out: &mut [u8]) -> usize
     let b = put_basis(o, out, a);
     let c = put_levels(o, out, b);
     let d = put_rest(o, out, c);
-    put_number(pass, out, d)
+    text::put_number(pass, out, d)
 }
 
 // REFUSED, the number and the place.
@@ -147,8 +101,8 @@ fn put_refusal(r: Refusal, out: &mut [u8]) -> usize
     ensures { λ e. ⌜ take e (now (out .exit)) ≡ spaced refusedWord (numberOf r ∷ placeOf r ∷ []) ⌝ }
 {
     let a = put_refused(out);
-    let b = put_number(evaluation::number(r) as u64, out, a);
-    put_number(evaluation::place(r) as u64, out, b)
+    let b = text::put_number(refusal::number(r) as u64, out, a);
+    text::put_number(refusal::place(r) as u64, out, b)
 }
 
 // The line for an answer and its result buffer, with its line feed; answers how many bytes it takes.
@@ -160,12 +114,12 @@ pub fn line(answer: Answer, result: &[u8], out: &mut [u8]) -> usize
 {
     match answer {
         Answer::Accepted => {
-            let end = put_outcome(urban::read_back(result), out);
-            put(10, out, end)
+            let end = put_outcome(result::read_back(result), out);
+            text::put(10, out, end)
         }
         Answer::Refused(r) => {
             let end = put_refusal(r, out);
-            put(10, out, end)
+            text::put(10, out, end)
         }
     }
 }

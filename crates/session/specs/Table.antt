@@ -15,7 +15,7 @@ use Rattle.window.specs.declared.Window.the-variants as window
 use Rattle.rest.specs.Runs.{restOf}
 use Rattle.window.specs.Windows.{firstWindow}
 use Rattle.gears.specs.declared.Gear.{Gear}
-use Rattle.gears.specs.Acceleration.{accelerationOf, meanOf}
+use Rattle.acceleration.specs.Acceleration.{accelerationOf, meanOf}
 use Rattle.session.specs.declared.Table.{Table}
 use Rattle.session.specs.declared.State.{State}
 use Rattle.session.specs.declared.State.the-variants.{Remains, Dropped, NoWindow, NoRun}

@@ -81,11 +81,11 @@ fn acceleration(f: Four, path: u16) -> Hundredths
     requires { ⌜ (1000 ≤ path) × (path ≤ 4000) ⌝ }
     ensures { λ r. ⌜ r .0 ≡ gearAcceleration path f ⌝ }
 {
-    let a = gears::run_acceleration(f.a.start, f.a.end, path);
-    let b = gears::run_acceleration(f.b.start, f.b.end, path);
-    let c = gears::run_acceleration(f.c.start, f.c.end, path);
-    let d = gears::run_acceleration(f.d.start, f.d.end, path);
-    gears::mean(a, b, c, d)
+    let a = acceleration::run_acceleration(f.a.start, f.a.end, path);
+    let b = acceleration::run_acceleration(f.b.start, f.b.end, path);
+    let c = acceleration::run_acceleration(f.c.start, f.c.end, path);
+    let d = acceleration::run_acceleration(f.d.start, f.d.end, path);
+    acceleration::mean(a, b, c, d)
 }
 
 // A gear with an acceleration run, by its acceleration window.

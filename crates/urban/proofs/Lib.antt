@@ -1,8 +1,1 @@
-pub mod Weights
-pub mod Results
-pub mod Near
-pub mod Fractions
-pub mod Reported
-pub mod Rising
-pub mod Close
-mod Examples
+pub mod PartPower

@@ -1,6 +1,1 @@
-pub mod Weighing
 pub mod Urban
-pub mod Result
-pub mod Fractions
-pub mod Figure
-pub mod Demand

@@ -3,11 +3,11 @@ use Prim.Native.Nat.{ℕ, _-_, _*_}
 use mathlib.Core.Bool.{cond}
 use lib.Dec.{ltb, leb}
 use Rattle.units.specs.Rounding.{rounded}
-use Rattle.urban.specs.declared.Reference.{Reference}
-use Rattle.urban.specs.declared.Chosen.{Chosen}
+use Rattle.weighing.specs.declared.Reference.{Reference}
+use Rattle.weighing.specs.declared.Chosen.{Chosen}
 use Rattle.urban.specs.declared.LUrban.{LUrban}
 use Rattle.urban.specs.declared.Outcome.{Outcome}
-use Rattle.urban.specs.Weighing.{basisOf}
+use Rattle.weighing.specs.Weighing.{basisOf}
 
 -- kp = 1 − a_urban / a', which is (a' − a_urban) / a', rounded as a whole to hundredths; 0 for an a' below a_urban
 unfoldable pub partPower : ℕ → ℕ → ℕ

@@ -7,8 +7,8 @@ use Prim.Native.Nat.{ℕ}
 use native.Mathlib.Omega.{arith}
 use Rattle.evaluation.specs.Answer.{answerBy, answerOf, bufferBy, bufferOf}
 use Rattle.units.specs.Bytes.{number}
-use Rattle.urban.proofs.Results.{at-ten}
-use Rattle.evaluation.specs.declared.Refusal.{Refusal}
+use Rattle.result.proofs.Results.{at-ten}
+use Rattle.refusal.specs.declared.Refusal.{Refusal}
 use Rattle.evaluation.specs.declared.Answer.the-variants.{Accepted, Refused}
 use Rattle.evaluation.specs.Demand.{CloseTo, RisesFrom}
 use Rattle.evaluation.proofs.Accepted.{close-to}

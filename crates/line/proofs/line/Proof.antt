@@ -7,15 +7,16 @@ use native.Mathlib.Omega.{arith}
 use Rattle.urban.specs.declared.Outcome.{Outcome}
 use Rattle.evaluation.specs.declared.Answer.{Answer}
 use Rattle.evaluation.specs.Answer.{fieldsOf}
-use Rattle.line.specs.Line.{spaced, acceptedWord, lineOf}
+use Rattle.text.specs.Text.{spaced}
+use Rattle.line.specs.Line.{acceptedWord, lineOf}
 use Rattle.line.proofs.line.Statement.{statement}
 use Rattle.line.proofs.line.Tie as tie
 use Rattle.line.proofs.line.Reads as reads
 use Rattle.line.proofs.line.Lts as lts
-use Rattle.line.proofs.put.Reads as put-reads
+use Rattle.text.proofs.put.Reads as put-reads
 use Rattle.line.proofs.put_outcome.Reads as put-outcome-reads
 use Rattle.line.proofs.put_refusal.Reads as put-refusal-reads
-use Rattle.urban.proofs.read_back.Reads as read-back-reads
+use Rattle.result.proofs.read_back.Reads as read-back-reads
 
 enum-told : tie.Need-enum-told
 enum-told c = search needs

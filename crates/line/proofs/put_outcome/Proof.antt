@@ -5,7 +5,8 @@ use mathlib.Core.List.{List, [], _∷_, _++_}
 use Prim.Native.Nat.{ℕ}
 use native.Mathlib.Omega.{arith}
 use Rattle.evaluation.specs.Answer.{fieldsOf}
-use Rattle.line.specs.Line.{decimalOf, spaced, acceptedWord}
+use Rattle.text.specs.Text.{decimalOf, spaced}
+use Rattle.line.specs.Line.{acceptedWord}
 use Rattle.line.proofs.put_outcome.Statement.{statement}
 use Rattle.line.proofs.put_outcome.Tie as tie
 use Rattle.line.proofs.put_outcome.Reads as reads
@@ -13,7 +14,7 @@ use Rattle.line.proofs.put_outcome.Lts as lts
 use Rattle.line.proofs.flag_of.Reads as flag-of-reads
 use Rattle.line.proofs.put_basis.Reads as put-basis-reads
 use Rattle.line.proofs.put_levels.Reads as put-levels-reads
-use Rattle.line.proofs.put_number.Reads as put-number-reads
+use Rattle.text.proofs.put_number.Reads as put-number-reads
 use Rattle.line.proofs.put_ok.Reads as put-ok-reads
 use Rattle.line.proofs.put_rest.Reads as put-rest-reads
 

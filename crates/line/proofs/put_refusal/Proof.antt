@@ -4,15 +4,16 @@ use mathlib.Core.Path.{ap, _∙_}
 use mathlib.Core.List.{List, [], _∷_, _++_}
 use Prim.Native.Nat.{ℕ}
 use native.Mathlib.Omega.{arith}
-use Rattle.evaluation.specs.Answer.{numberOf}
-use Rattle.line.specs.Line.{decimalOf, spaced, refusedWord}
+use Rattle.refusal.specs.Refusal.{numberOf}
+use Rattle.text.specs.Text.{decimalOf, spaced}
+use Rattle.line.specs.Line.{refusedWord}
 use Rattle.line.proofs.put_refusal.Statement.{statement}
 use Rattle.line.proofs.put_refusal.Tie as tie
 use Rattle.line.proofs.put_refusal.Reads as reads
 use Rattle.line.proofs.put_refusal.Lts as lts
-use Rattle.evaluation.proofs.number.Reads as number-reads
-use Rattle.evaluation.proofs.place.Reads as place-reads
-use Rattle.line.proofs.put_number.Reads as put-number-reads
+use Rattle.refusal.proofs.number.Reads as number-reads
+use Rattle.refusal.proofs.place.Reads as place-reads
+use Rattle.text.proofs.put_number.Reads as put-number-reads
 use Rattle.line.proofs.put_refused.Reads as put-refused-reads
 
 put-refused-requires : tie.Need-put-refused-requires

@@ -9,7 +9,7 @@ use Rattle.line.proofs.put_refused.Statement.{statement}
 use Rattle.line.proofs.put_refused.Tie as tie
 use Rattle.line.proofs.put_refused.Reads as reads
 use Rattle.line.proofs.put_refused.Lts as lts
-use Rattle.line.proofs.put.Reads as put-reads
+use Rattle.text.proofs.put.Reads as put-reads
 
 put-requires : tie.Need-put-requires
 put-requires c κs = search needs

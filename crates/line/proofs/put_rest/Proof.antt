@@ -5,7 +5,7 @@ use Rattle.line.proofs.put_rest.Statement.{statement}
 use Rattle.line.proofs.put_rest.Tie as tie
 use Rattle.line.proofs.put_rest.Reads as reads
 use Rattle.line.proofs.put_rest.Lts as lts
-use Rattle.line.proofs.put_four.Reads as put-four-reads
+use Rattle.text.proofs.put_four.Reads as put-four-reads
 
 cast-put-four : tie.Need-cast-put-four
 cast-put-four c = search needs

@@ -7,7 +7,7 @@ use borrow.Author.Tests.{lt-ltb, le-ltb}
 use Rattle.units.specs.Rounding.{rounded}
 use Rattle.units.proofs.Rounding.{rounded-most}
 use Rattle.urban.specs.Urban.{lUrbanOf}
-use Rattle.urban.proofs.Weights.{off-most}
+use Rattle.urban.proofs.PartPower.{off-most}
 use Rattle.urban.proofs.l_urban.Statement.{statement}
 use Rattle.urban.proofs.l_urban.Tie as tie
 

@@ -3,7 +3,7 @@ use borrow.Author.Needs.{needs}
 use mathlib.Core.Path.{_≡_, sym, _∙_}
 use native.Mathlib.Omega.{arith}
 use Rattle.urban.specs.Urban.{partPower}
-use Rattle.urban.proofs.Weights.{kp-none, kp-some, kp-most}
+use Rattle.urban.proofs.PartPower.{kp-none, kp-some, kp-most}
 use Rattle.urban.proofs.part_power.Statement.{statement}
 use Rattle.urban.proofs.part_power.Tie as tie
 

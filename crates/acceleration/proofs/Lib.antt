@@ -1,0 +1,2 @@
+pub mod Accelerations
+mod Examples

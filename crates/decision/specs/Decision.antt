@@ -1,0 +1,90 @@
+-- What a byte string decides on: the first refusal of document 01's table whose cause holds, or the fields of the result.
+use Prim.Native.Nat.{ℕ, _+_, _-_, max}
+use mathlib.Core.Bool.{cond, not, _||_}
+use mathlib.Core.List.{List}
+use lib.Dec.{ltb, eqb}
+use lib.ListN.{length}
+use Rattle.records.specs.declared.Vehicle.{Vehicle}
+use Rattle.records.specs.declared.Closing.{Closing}
+use Rattle.sheet.specs.declared.Examination.{Examination}
+use Rattle.sheet.specs.declared.Examination.the-variants as examination
+use Rattle.records.specs.Records.{recordAt}
+use Rattle.records.specs.Layout.{vehicleIn, closingIn}
+use Rattle.sheet.specs.Examining.{lastOf, examined}
+use Rattle.reference.specs.Reference.{pmrOf, aUrban, aRef}
+use Rattle.window.specs.declared.Four.{Four}
+use Rattle.gears.specs.declared.Gear.{Gear}
+use Rattle.gears.specs.declared.Choice.{Choice}
+use Rattle.gears.specs.Rules.{firstNotFalling, choiceOf}
+use Rattle.session.specs.Table.{Track, anyRun, lowestLacking, gearsOf, windowsOf}
+use Rattle.weighing.specs.declared.Reference.{Reference}
+use Rattle.urban.specs.Urban.{outcomeOf}
+use Rattle.refusal.specs.declared.Refusal.{Refusal}
+use Rattle.refusal.specs.declared.Refusal.the-variants as refusal
+use Rattle.selection.specs.declared.Selection.{Selection}
+use Rattle.selection.specs.declared.Selection.the-variants as selection
+use Rattle.selection.specs.Selection.{gearAt, selectedIn, selectionBy}
+use Rattle.decision.specs.declared.Decision.{Decision}
+use Rattle.decision.specs.declared.Decision.the-variants.{Refused, Result}
+
+-- ---- what a whole sheet is evaluated by
+
+-- The background is the larger of before and after; the path is c + length, c 2,000 cm from AA' and 1,000 from PP'.
+unfoldable pub trackIn : List ℕ → Vehicle → Closing → Track
+trackIn s v z =
+    record {
+      sheet = s;
+      background = max (v .background .0) (z .background .0);
+      S = v .«rated_speed»;
+      path = cond (eqb (v .«start_line») 0) 2000 1000 + v .length;
+    }
+
+unfoldable pub referenceAt : ℕ → Reference
+referenceAt q = record { pmr = q; «a_urban» = record { 0 = aUrban q }; «a_ref» = record { 0 = aRef q } }
+
+-- ---- the table of refusals
+
+-- the result of what was selected, against a limit
+unfoldable pub finishBy : Reference → ℕ → Selection → Decision
+finishBy r limit (selection.Lacking x) = Refused x
+finishBy r limit (selection.Chosen c) = Result (outcomeOf c r limit)
+
+-- Rows 8 to 10, over the remaining gears and their acceleration windows: neighbours that do not fall, no rule, no constant-speed window.
+unfoldable pub decideGears : Reference → ℕ → List ℕ → ℕ → List Gear → List Four → Decision
+decideGears r limit s background gs ws =
+    cond (ltb (firstNotFalling gs) (length gs - 1)) (Refused (refusal.NotFalling (gearAt gs (firstNotFalling gs) .number)))
+    (finishBy r limit (selectionBy r (selectedIn s background gs ws (choiceOf (r .«a_ref» .0) (r .«a_urban» .0) gs))))
+
+-- rows 6 to 10, for a whole sheet of PMR q (in tenths)
+unfoldable pub decideWhole : Track → ℕ → ℕ → Decision
+decideWhole t q limit =
+    cond (ltb q 50 || ltb 6000 q) (Refused refusal.PmrOutOfRange)
+    (cond (not (anyRun (t .sheet))) (Refused refusal.NoRun)
+    (cond (ltb (lowestLacking t) 16) (Refused (refusal.NoWindow (lowestLacking t + 1)))
+    (decideGears (referenceAt q) limit (t .sheet) (t .background) (gearsOf t) (windowsOf t))))
+
+-- rows 2 to 5 are the examination's
+unfoldable pub decideBy : List ℕ → Examination → Decision
+decideBy s examination.WrongSize = Refused refusal.WrongSize
+decideBy s examination.NoVehicle = Refused refusal.NoVehicle
+decideBy s (examination.NoClosing n) = Refused (refusal.NoClosing n)
+decideBy s (examination.BrokenRecord n) = Refused (refusal.BrokenRecord n)
+decideBy s (examination.Whole v z) = decideWhole (trackIn s v z) (pmrOf (v .power) (v .mass)) (v .limit)
+
+unfoldable pub decisionOf : List ℕ → Decision
+decisionOf s = decideBy s (examined s)
+
+-- ---- what the rules decide on, of the bytes themselves
+
+-- The first and the last record, read as a vehicle and a closing record. In a whole sheet that is what they are.
+unfoldable pub sheetVehicle : List ℕ → Vehicle
+sheetVehicle s = vehicleIn (recordAt s 0)
+
+unfoldable pub sheetTrack : List ℕ → Track
+sheetTrack s = trackIn s (sheetVehicle s) (closingIn (recordAt s (lastOf s)))
+
+unfoldable pub pmrIn : List ℕ → ℕ
+pmrIn s = pmrOf (sheetVehicle s .power) (sheetVehicle s .mass)
+
+unfoldable pub choiceIn : List ℕ → Choice
+choiceIn s = choiceOf (aRef (pmrIn s)) (aUrban (pmrIn s)) (gearsOf (sheetTrack s))

@@ -1,0 +1,32 @@
+-- The number and the place of a refusal (document 01, "Refusals and what remains").
+use Prim.Native.Nat.{ℕ}
+use Rattle.refusal.specs.declared.Refusal.{Refusal}
+use Rattle.refusal.specs.declared.Refusal.the-variants.{ShortBuffer, WrongSize, NoVehicle, NoClosing, BrokenRecord, PmrOutOfRange, NoRun, NoWindow, NotFalling, NoRule, NoConstantSpeed}
+
+-- the table's number of a refusal
+abbrev pub numberOf : Refusal → ℕ
+numberOf ShortBuffer = 1
+numberOf WrongSize = 2
+numberOf NoVehicle = 3
+numberOf (NoClosing n) = 4
+numberOf (BrokenRecord n) = 5
+numberOf PmrOutOfRange = 6
+numberOf NoRun = 7
+numberOf (NoWindow g) = 7
+numberOf (NotFalling g) = 8
+numberOf NoRule = 9
+numberOf (NoConstantSpeed g) = 10
+
+-- and its place: 0, a record or a gear
+abbrev pub placeOf : Refusal → ℕ
+placeOf ShortBuffer = 0
+placeOf WrongSize = 0
+placeOf NoVehicle = 0
+placeOf (NoClosing n) = n
+placeOf (BrokenRecord n) = n
+placeOf PmrOutOfRange = 0
+placeOf NoRun = 0
+placeOf (NoWindow g) = g
+placeOf (NotFalling g) = g
+placeOf NoRule = 0
+placeOf (NoConstantSpeed g) = g

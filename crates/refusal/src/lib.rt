@@ -1,0 +1,67 @@
+// The causes of a refusal, each with its number and its place.
+ghost use mathlib.Core.Path.{_≡_};
+ghost use Rattle.refusal.specs.Refusal.{numberOf, placeOf};
+
+// The causes of a refusal, in the order in which they are checked.
+pub enum Refusal {
+    // 1: the result buffer has less than 32 bytes
+    ShortBuffer,
+    // 2: empty, over 32,768 bytes, or not whole records
+    WrongSize,
+    // 3: byte 0 of the first record is not 1
+    NoVehicle,
+    // 4: the last record does not close the sheet, or not with its number of runs
+    NoClosing(usize),
+    // 5: the lowest record that breaks the layout
+    BrokenRecord(usize),
+    // 6: PMR under 5.0 or over 600.0
+    PmrOutOfRange,
+    // 7: no acceleration run
+    NoRun,
+    // 7: the lowest gear with an acceleration run and no window
+    NoWindow(u8),
+    // 8: the lower gear of the first neighbours whose accelerations do not fall
+    NotFalling(u8),
+    // 9: no gear remains, or no rule applies
+    NoRule,
+    // 10: the lowest chosen gear without a constant-speed window
+    NoConstantSpeed(u8),
+}
+
+// The number of a refusal.
+pub fn number(r: Refusal) -> u8
+    ensures { λ n. ⌜ n ≡ numberOf r ⌝ }
+{
+    match r {
+        Refusal::ShortBuffer => 1,
+        Refusal::WrongSize => 2,
+        Refusal::NoVehicle => 3,
+        Refusal::NoClosing(_) => 4,
+        Refusal::BrokenRecord(_) => 5,
+        Refusal::PmrOutOfRange => 6,
+        Refusal::NoRun => 7,
+        Refusal::NoWindow(_) => 7,
+        Refusal::NotFalling(_) => 8,
+        Refusal::NoRule => 9,
+        Refusal::NoConstantSpeed(_) => 10,
+    }
+}
+
+// Its place: a record, a gear, or 0.
+pub fn place(r: Refusal) -> usize
+    ensures { λ n. ⌜ n ≡ placeOf r ⌝ }
+{
+    match r {
+        Refusal::ShortBuffer => 0,
+        Refusal::WrongSize => 0,
+        Refusal::NoVehicle => 0,
+        Refusal::NoClosing(n) => n,
+        Refusal::BrokenRecord(n) => n,
+        Refusal::PmrOutOfRange => 0,
+        Refusal::NoRun => 0,
+        Refusal::NoWindow(g) => g as usize,
+        Refusal::NotFalling(g) => g as usize,
+        Refusal::NoRule => 0,
+        Refusal::NoConstantSpeed(g) => g as usize,
+    }
+}
