@@ -18,7 +18,7 @@ from collections import Counter
 from damage import damaged_sheets, raised
 from groups import GROUPS, random_session
 from make import Random
-from reckon import Refused, chosen_records, excess, is_close, is_rising, line, reckon, records_of
+from reckon import Refused, chosen_records, excess, is_close, line, reckon, records_of, rise
 
 SHEETS, LINES = os.path.join("data", "sheets.bin"), "stdout"
 SEED = 51
@@ -129,20 +129,22 @@ def check_close(evaluations):
     return close == len(evaluations)
 
 
-def rising_verdicts(random, found):
-    """For each accepted sheet, pairs made by raising chosen levels: True, False, or None if the runs chosen differ."""
+def rises(random, found):
+    """For each accepted sheet, pairs made by raising chosen levels: how far L_urban rises, or None if demand 3 does not speak of the pair."""
     for sheet, evaluation in found:
         for _ in range(PAIRS_OF_A_SHEET if len(sheet) < 3000 else 2):
             second = raised(random, sheet, chosen_records(evaluation))
-            yield is_rising(sheet, second), second != sheet
+            yield "alike" if second == sheet else rise(sheet, second)
 
 
 def check_rising(found):
     """Prints how many pairs rise; returns whether none falls."""
-    counts = Counter(rising_verdicts(Random(SEED), found))
-    print(f"rising: {counts[True, True]} pairs do not fall, {counts[False, True]} fall; "
-          f"{counts[None, True]} pairs had other runs chosen or a refusal, {counts[True, False]} were alike")
-    return counts[False, True] == 0
+    counts = Counter(rises(Random(SEED), found))
+    fallen = sum(counts[by] for by in counts if isinstance(by, int) and by < 0)
+    risen = sum(counts[by] for by in counts if isinstance(by, int) and by > 0)
+    print(f"rising: {risen} pairs rise, {counts[0]} stay, {fallen} fall; "
+          f"{counts[None]} pairs had other runs chosen or a refusal, {counts['alike']} were alike")
+    return fallen == 0
 
 
 def demand_3():
