@@ -47,7 +47,9 @@ def full_pipe():
 
 
 def peak(program, sheet):
-    """The kilobytes of the largest resident set up to the line's writing. (The usage that a wait reports counts this process too.)"""
+    """The kilobytes of the largest resident set up to where the line is written.
+
+    The usage that a wait reports would count this process too."""
     reader, writer = full_pipe()
     child = started(program, sheet, writer)
     os.close(writer)

@@ -7,8 +7,8 @@
     python3 tools/corpus.py --damaged N SEED DIR    writes N damaged and random sheets with their lines
     python3 tools/corpus.py --demand3               checks "close" and "rising" of demand 3
 
-DIR is crates/corpus, or one like it. data/sheets.bin holds, for each sheet, its length in four bytes, low byte first, and its bytes;
-a length of 0xFFFFFFFF ends it. stdout holds the line of each sheet.
+DIR is crates/corpus, or one like it. data/sheets.bin holds, for each sheet, its length in four bytes, low byte first,
+and its bytes; a length of 0xFFFFFFFF ends it. stdout holds the line of each sheet.
 """
 
 import os
@@ -130,7 +130,7 @@ def check_close(evaluations):
 
 
 def rises(random, found):
-    """For each accepted sheet, pairs made by raising chosen levels: how far L_urban rises, or None if demand 3 does not speak of the pair."""
+    """For each accepted sheet, pairs made by raising chosen levels: how far L_urban rises, or None (see `rise`)."""
     for sheet, evaluation in found:
         for _ in range(PAIRS_OF_A_SHEET if len(sheet) < 3000 else 2):
             second = raised(random, sheet, chosen_records(evaluation))

@@ -162,7 +162,8 @@ def tempted_any_four():
 TEMPTATIONS = (tempted_negative_half, tempted_a_ref, tempted_sum_of_sides, tempted_any_four)
 
 
-# What the test program `driven` prints before its sheets: in words; the paper's answer, by hand where the paper says it in words; the reckoner's.
+# What the test program `driven` prints before its sheets: in words; the paper's answer, by hand where the paper says
+# it in words; the reckoner's.
 
 def is_window(*levels):
     """Whether four runs with these (left, right) levels in tenths are a window: 1 if so."""

@@ -1,12 +1,13 @@
 #!/usr/bin/env python3
-"""What the test program `levels` must print: every 32-bit float from 20.0 to 140.0 rounded to a tenth, reckoned from the tenths' bounds.
+"""What the test program `levels` must print: every 32-bit float from 20.0 to 140.0 rounded to a tenth.
 
     python3 tools/levels.py > crates/levels/stdout
     python3 tools/levels.py | cmp - crates/levels/stdout
 
-A line `from L N D S T` stands for the floats of ten decibels from L on (140.0 alone in the last): N of them, D that differ (none), the
-sum S of their tenths, and the sum T of the sums after each of them, modulo 2^64. A line `pattern P T` gives the tenths of one
-pattern, or 0 if it is no level.
+It is reckoned by fractions from the bounds of each tenth, not float by float. A line `from L N D S T` stands for the
+floats of ten decibels from L on (140.0 alone in the last): N of them, D that differ (none), the sum S of their tenths,
+and the sum T of the sums after each of them, modulo 2^64. A line `pattern P T` gives the tenths of one pattern, or 0 if
+it is no level.
 """
 
 from fractions import Fraction
@@ -16,8 +17,9 @@ from reckon import HIGHEST_LEVEL, LOWEST_LEVEL, rounded
 
 LAST = bits_of(lowest_float(HIGHEST_LEVEL))
 
-PATTERNS = (0x419FFFFF, 0x41A00000, 0x430C0000, 0x430C0001, 0x7F7FFFFF, 0x7F800000, 0xFF800000, 0x7F800001, 0x7FC00000, 0x7FFFFFFF,
-            0xFFC00000, 0xFFFFFFFF, 0x00000000, 0x80000000, 0x00000001, 0x00800000, 0xC1A00000, 0xC2A00000, 0xC30C0000)
+PATTERNS = (0x419FFFFF, 0x41A00000, 0x430C0000, 0x430C0001, 0x7F7FFFFF, 0x7F800000, 0xFF800000, 0x7F800001,
+            0x7FC00000, 0x7FFFFFFF, 0xFFC00000, 0xFFFFFFFF, 0x00000000, 0x80000000, 0x00000001, 0x00800000,
+            0xC1A00000, 0xC2A00000, 0xC30C0000)
 
 
 def first_pattern(bound):

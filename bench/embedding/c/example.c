@@ -1,4 +1,5 @@
-/* Reads the sheet that its argument names, and prints L_urban against the limit, or the refusal, and the line of the evaluation program. */
+/* Reads the sheet that its argument names, and prints L_urban with its verdict, or the refusal, and the line of the
+ * evaluation program. */
 #include "ruthimpo.h"
 
 #include <stdio.h>

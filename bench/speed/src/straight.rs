@@ -1,5 +1,5 @@
-//! The evaluation of a pass-by sheet as fast as plain Rust has it: one pass over the records and no allocation. Each gear and run kind
-//! keeps its last four valid runs until they are a window.
+//! The evaluation of a pass-by sheet in plain Rust, written for speed: one pass over the records and no allocation.
+//! Each gear and run kind keeps its last four valid runs until they are a window.
 
 use reckoning::reference::{a_ref, a_urban};
 use reckoning::Refusal;

@@ -3,6 +3,7 @@
 //!     differential SHEETS COUNT [SEED]     SHEETS is the file of the corpus
 //!
 //! Each result buffer has bytes that an evaluation must keep: all of them on a refusal, those from 32 on on success.
+//! The sheet stays too.
 
 use speed::changes::any_sheet;
 use speed::random::Random;
@@ -82,7 +83,10 @@ fn main() -> ExitCode {
     for at in 0..count {
         let sheet = any_sheet(&mut random, &corpus);
         let size = if random.chance(5) { random.below(32) } else { 32 + random.below(40) };
-        match fault(&sheet, size) {
+        let before = sheet.clone();
+        let found = fault(&sheet, size);
+        assert!(sheet == before, "sheet {at} was written");
+        match found {
             Ok(given) => {
                 let rule = if given.number == 0 { given.buffer[0] } else { 0 };
                 *answers.entry((given.number, rule)).or_default() += 1;

@@ -1,5 +1,5 @@
-//! The time of the proved evaluation against two in Rust, sheet by sheet, in one run: the reckoning, which reads the runs into vectors,
-//! and the one that goes over the records once.
+//! The time of the proved evaluation against two in Rust, sheet by sheet, in one run: the reckoning, which reads the
+//! runs into vectors, and the one that goes over the records once.
 
 use speed::sessions::{session, Place};
 use speed::sheets::{put, RECORD};
@@ -102,10 +102,24 @@ fn answer_of(sheet: &[u8]) -> String {
     }
 }
 
+/// How much more time ours needs for four times the records.
+fn print_growth(found: &[(Row, f64)]) {
+    for (small, less) in found.iter().filter(|(row, _)| row.records == 256) {
+        for (_, more) in found.iter().filter(|(row, _)| row.records == 1024 && row.name == small.name) {
+            println!(
+                "{}: from 256 to 1,024 records, 4.0 times as many, ours needs {:.1} times the time",
+                small.name,
+                more / less
+            );
+        }
+    }
+}
+
 fn main() {
     println!("                                                 nanoseconds a call          ours / Rust");
     println!("records  sheet                     answer       ours  vectors one pass   vectors one pass");
     let mut slower = [0, 0];
+    let mut found = Vec::new();
     for row in rows() {
         let answer = answer_of(&row.sheet);
         let (times, ratios) = measured(&row.sheet);
@@ -115,6 +129,8 @@ fn main() {
         for (count, ratio) in slower.iter_mut().zip(ratios) {
             *count += usize::from(ratio > 1.0);
         }
+        found.push((row, times[0]));
     }
+    print_growth(&found);
     println!("rows in which ours is slower: {} than vectors, {} than one pass", slower[0], slower[1]);
 }
