@@ -11,7 +11,7 @@ import subprocess
 import sys
 import tempfile
 
-from corpus import all_sheets, write
+from corpus import LINES, SHEETS, all_sheets, write
 from damage import damaged_sheets
 from make import Random
 
@@ -26,8 +26,8 @@ def build():
 
 def differing_lines(program, directory):
     """Prints the lines that differ; returns their number."""
-    found = subprocess.run([program, os.path.join(directory, "sheets.bin")], check=True, capture_output=True, text=True)
-    with open(os.path.join(directory, "expected.txt")) as file:
+    found = subprocess.run([program, os.path.join(directory, SHEETS)], check=True, capture_output=True, text=True)
+    with open(os.path.join(directory, LINES)) as file:
         expected = file.read().splitlines()
     lines = found.stdout.splitlines()
     differing = [at for at in range(max(len(lines), len(expected))) if lines[at:at + 1] != expected[at:at + 1]]

@@ -2,13 +2,13 @@
 """The corpus: a fixed set of sheets with the reckoner's line for each.
 
     python3 tools/corpus.py --spread                the spread over rules, refusals and groups; fails if one is thin
-    python3 tools/corpus.py --write DIR             writes sheets.bin and expected.txt
+    python3 tools/corpus.py --write DIR             writes data/sheets.bin and stdout
     python3 tools/corpus.py --check DIR             fails unless DIR holds what --write would write
     python3 tools/corpus.py --damaged N SEED DIR    writes N damaged and random sheets with their lines
     python3 tools/corpus.py --demand3               checks "close" and "rising" of demand 3
 
-sheets.bin holds, for each sheet, its length in four bytes, low byte first, and its bytes.
-A length of 0xFFFFFFFF ends it.
+DIR is crates/corpus, or one like it. data/sheets.bin holds, for each sheet, its length in four bytes, low byte first,
+and its bytes; a length of 0xFFFFFFFF ends it. stdout holds the line of each sheet.
 """
 
 import os
@@ -18,8 +18,9 @@ from collections import Counter
 from damage import damaged_sheets, raised
 from groups import GROUPS, random_session
 from make import Random
-from reckon import Refused, chosen_records, excess, is_close, is_rising, line, reckon
+from reckon import Refused, chosen_records, excess, is_close, line, reckon, records_of, rise
 
+SHEETS, LINES = os.path.join("data", "sheets.bin"), "stdout"
 SEED = 51
 END = 2 ** 32 - 1
 LEAST_SHEETS, LEAST_OF_EACH = 2000, 30
@@ -35,19 +36,19 @@ def corpus():
 
 
 def packed(sheets):
-    """The bytes of sheets.bin."""
+    """The bytes of data/sheets.bin."""
     parts = [len(sheet).to_bytes(4, "little") + sheet for sheet in sheets]
     return b"".join(parts) + END.to_bytes(4, "little")
 
 
 def lines(sheets):
-    """The bytes of expected.txt."""
+    """The bytes of stdout."""
     return "".join(line(sheet) + "\n" for sheet in sheets).encode()
 
 
 def write(directory, sheets):
-    os.makedirs(directory, exist_ok=True)
-    for name, content in (("sheets.bin", packed(sheets)), ("expected.txt", lines(sheets))):
+    os.makedirs(os.path.join(directory, os.path.dirname(SHEETS)), exist_ok=True)
+    for name, content in ((SHEETS, packed(sheets)), (LINES, lines(sheets))):
         with open(os.path.join(directory, name), "wb") as file:
             file.write(content)
         print(f"{name}: {len(content)} bytes")
@@ -57,7 +58,7 @@ def write(directory, sheets):
 def check(directory, sheets):
     """Whether a directory holds these sheets and their lines."""
     same = True
-    for name, content in (("sheets.bin", packed(sheets)), ("expected.txt", lines(sheets))):
+    for name, content in ((SHEETS, packed(sheets)), (LINES, lines(sheets))):
         with open(os.path.join(directory, name), "rb") as file:
             agrees = file.read() == content
         print(f"{name}: {'as made' if agrees else 'DIFFERS'}")
@@ -71,22 +72,38 @@ def outcome(text):
     return f"rule {number}" if word == "OK" else f"refusal {number}"
 
 
+# What else the corpus has to hold, by a test of a line's numbers and of its sheet.
+FEATURES = {
+    "W < C": lambda numbers, _: len(numbers) == 13 and numbers[5] < numbers[6],
+    "PMR below 25.0": lambda numbers, _: len(numbers) == 13 and numbers[10] < 250,
+    "kp 0.00 from PMR 25.0": lambda numbers, _: len(numbers) == 13 and numbers[10] >= 250 and numbers[4] == 0,
+    "fails its limit": lambda numbers, _: len(numbers) == 13 and numbers[12] == 0,
+    "1,024 records": lambda _, sheet: len(sheet) == 32768,
+    "16 gears": lambda _, sheet: len({record[1] for record in records_of(sheet)[1:-1] if record[0] == 2}) == 16,
+}
+
 OUTCOMES = [f"rule {n}" for n in range(1, 6)] + [f"refusal {n}" for n in range(2, 11)]
 
 
 def spread():
     """Prints the spread; returns whether it is wide enough."""
-    found = [(group, outcome(line(sheet)), len(sheet)) for group, sheet in corpus()]
+    answers = [(group, line(sheet), sheet) for group, sheet in corpus()]
+    found = [(group, outcome(text), len(sheet)) for group, text, sheet in answers]
     totals = Counter(result for _, result, _ in found)
     print(f"{len(found)} sheets, {sum(length for *_, length in found)} bytes")
     for result in OUTCOMES:
         print(f"  {result:<11}{totals[result]:>5}")
+    print("\nof them")
+    for name, holds in FEATURES.items():
+        totals[name] = sum(holds([int(word) for word in text.split()[1:]], sheet) for _, text, sheet in answers)
+        print(f"  {name:<24}{totals[name]:>5}")
     print("\nby group")
     for group in GROUPS:
         counts = Counter(result for name, result, _ in found if name == group.__name__)
         shown = ", ".join(f"{result} {counts[result]}" for result in OUTCOMES if counts[result])
         print(f"  {group.__name__:<24}{sum(counts.values()):>5}  {shown}")
-    return len(found) >= LEAST_SHEETS and all(totals[result] >= LEAST_OF_EACH for result in OUTCOMES)
+    return (len(found) >= LEAST_SHEETS and all(totals[result] >= LEAST_OF_EACH for result in OUTCOMES)
+            and all(totals[name] > 0 for name in FEATURES))
 
 
 def all_sheets():
@@ -112,20 +129,22 @@ def check_close(evaluations):
     return close == len(evaluations)
 
 
-def rising_verdicts(random, found):
-    """For each accepted sheet, pairs made by raising chosen levels: True, False, or None if the runs chosen differ."""
+def rises(random, found):
+    """For each accepted sheet, pairs made by raising chosen levels: how far L_urban rises, or None (see `rise`)."""
     for sheet, evaluation in found:
         for _ in range(PAIRS_OF_A_SHEET if len(sheet) < 3000 else 2):
             second = raised(random, sheet, chosen_records(evaluation))
-            yield is_rising(sheet, second), second != sheet
+            yield "alike" if second == sheet else rise(sheet, second)
 
 
 def check_rising(found):
     """Prints how many pairs rise; returns whether none falls."""
-    counts = Counter(rising_verdicts(Random(SEED), found))
-    print(f"rising: {counts[True, True]} pairs do not fall, {counts[False, True]} fall; "
-          f"{counts[None, True]} pairs had other runs chosen or a refusal, {counts[True, False]} were alike")
-    return counts[False, True] == 0
+    counts = Counter(rises(Random(SEED), found))
+    fallen = sum(counts[by] for by in counts if isinstance(by, int) and by < 0)
+    risen = sum(counts[by] for by in counts if isinstance(by, int) and by > 0)
+    print(f"rising: {risen} pairs rise, {counts[0]} stay, {fallen} fall; "
+          f"{counts[None]} pairs had other runs chosen or a refusal, {counts['alike']} were alike")
+    return fallen == 0
 
 
 def demand_3():

@@ -146,9 +146,12 @@ def gently(random, whole):
 def raised(random, whole, chosen):
     """A sheet with no chosen run's level lower, alike in every byte but floats of run records."""
     records = records_of(whole)
-    reach = random.pick((3, 3000, 14000, 60000))
-    together = random.between(0, reach) if random.chance(50) else None
-    percent = random.pick((10, 50, 100))
+    # in floats: at 70 dB(A), 131,072 of them are 1.0 dB
+    reach = random.pick((3, 3000, 14000, 60000, 300000, 1000000))
+    # a rise of decibels keeps a window only if all of its runs take part
+    far = reach > 60000
+    together = random.between(0, reach) if far or random.chance(50) else None
+    percent = 100 if far else random.pick((10, 50, 100))
     others = random.pick((0, 0, 4000, 400000))
     return records[0] + b"".join(
         raised_record(random, bytearray(record), together, reach, percent) if at in chosen

@@ -1,16 +1,20 @@
 #!/usr/bin/env python3
 """Document 01's driven examples, and each line of "Where the spreadsheet tempts".
 
-    python3 tools/examples.py      prints each example; fails if the reckoner's answer is not the paper's
+    python3 tools/examples.py                prints each example; fails if the reckoner's answer is not the paper's
+    python3 tools/examples.py --write DIR    writes data/sheets.bin and stdout of the test program `driven`
+    python3 tools/examples.py --check DIR    fails unless DIR holds what --write would write
 
 Numbers are tenths of dB(A), hundredths of m/s² and tenths of PMR, as in the result record.
 """
 
+import os
 import sys
 from fractions import Fraction
 
 import reckon
-from reckon import ACCELERATION_RUN, CONSTANT_RUN, a_ref_of, a_urban_of, corrected, line
+from corpus import LINES, SHEETS, packed
+from reckon import ACCELERATION_RUN, CONSTANT_RUN, a_ref_of, a_urban_of, corrected, line, rounded
 from sheets import decibels, run, sheet, speeds_for, tenths, vehicle, worked_sheet
 
 STAR = "★ "
@@ -158,6 +162,125 @@ def tempted_any_four():
 TEMPTATIONS = (tempted_negative_half, tempted_a_ref, tempted_sum_of_sides, tempted_any_four)
 
 
+# What the test program `driven` prints before its sheets: in words; the paper's answer, by hand where the paper says
+# it in words; the reckoner's.
+
+def is_window(*levels):
+    """Whether four runs with these (left, right) levels in tenths are a window: 1 if so."""
+    lefts, rights = ([str(Fraction(level, 10)) for level in side] for side in zip(*levels))
+    return int(window_records(lefts, rights) == [1, 2, 3, 4])
+
+
+def side_lines():
+    yield "72.25", 723, level_tenths("72.25")
+    yield "72.125", 721, level_tenths("72.125")
+    for text, d, paper in (("d 10.9", 109, 504), ("d 9.9", 99, "not valid"), ("d 15.0", 150, 550)):
+        level = corrected(Fraction(400 + d, 10), 400)
+        yield text, paper, "not valid" if level is None else level
+
+
+def window_lines():
+    low, high, middle, top = (700, 700), (721, 721), (710, 710), (720, 720)
+    yield "runs 1 to 4", 0, is_window(low, high, middle, middle)
+    yield "runs 2 to 5", 1, is_window(high, middle, middle, middle)
+    yield "70.0 with 72.0", 1, is_window(low, top, middle, middle)
+    yield "sides alike, 2.0 each", 1, is_window(low, top, top, top)
+    yield "sides opposed, 2.1 each", 0, is_window((700, 721), (721, 700), (721, 700), (721, 700))
+
+
+def gear_lines():
+    for q, paper in ((250, (79, 81)), (249, (79, 79)), (1000, (117, 177)), (6000, (166, 301)), (50, (35, 35))):
+        yield f"PMR {q}", paper, (a_urban_of(q), a_ref_of(q))
+    yield "PMR of 100.0 and 1500", 667, pick(worked_sheet(), "PMR")
+    yield "44.0 to 56.0, length 450, AA'", 189, acceleration_of(440, 560, 450)
+    rule, i, j = pick(gears_sheet((2, 156, 720, 650), (3, 142, 710, 650)), "rule", "i", "j")
+    # the place of gear i among the two
+    yield "R 1.49, gears 1.56 and 1.42", ("one", 2, 0), ("pair" if j else "one", rule, (2, 3).index(i))
+
+
+def urban_lines():
+    yield "a 1.00, W 66.0, C 66.0", (0, 66), pick(gears_sheet((3, 100, 660, 660)), "kp", "L_urban")
+    yield "a 1.00, W 65.0, C 66.0", (100, 66), pick(gears_sheet((3, 100, 650, 660)), "kp", "L_urban")
+    # 1 − 106/156 is 0.3205; 72.0 − 0.32 × 7.0 is 69.76
+    yield "a 1.56, W 72.0, C 65.0", (32, 70), pick(gears_sheet((3, 156, 720, 650)), "kp", "L_urban")
+    # 70.1 + 0.50 × (70.0 − 70.1) is 70.05
+    yield "k 0.50, L(i) 70.0, L(j) 70.1", 701, pick(gears_sheet((2, 169, 700, 650), (3, 129, 701, 650)), "W")
+
+
+def level_sheet(*lefts):
+    """One gear whose acceleration runs have these levels on both sides."""
+    tenths_of = [rounded(10 * Fraction(left)) for left in lefts]
+    return side_sheet(tenths_of, tenths_of)
+
+
+def driven_sheets():
+    """The sheets of the examples, each with the paper's line where it gives one, or with the start of it."""
+    yield worked_sheet()[-32:], "REFUSED 3 0"
+    yield worked_sheet()[:32], "REFUSED 4 0"
+    yield worked_sheet(), "OK 3 3 4 78 29 719 658 70 106 149 667 149 1"
+    # W is the mean of runs 2 to 5, 71.275, and of runs 1 to 4, 71.0
+    yield level_sheet("70.0", "72.1", "71.0", "71.0", "71.0"), "OK 1 3 0 100 29 713 650"
+    yield level_sheet("70.0", "72.0", "71.0", "71.0", "71.0"), "OK 1 3 0 100 29 710 650"
+    yield level_sheet(*("50.9",) * 4), "OK 1 3 0 100 100 504 650"
+    yield level_sheet(*("49.9",) * 4), "REFUSED 7 3"
+    yield level_sheet(*("55.0",) * 4), "OK 1 3 0 100 100 550 650"
+    for power, mass, paper in ((500, 2000, "79 81 250"), (498, 2000, "79 79 249"), (1000, 1000, "117 177 1000"),
+                               (6000, 1000, "166 301 6000"), (100, 2000, "35 35 50")):
+        yield gears_sheet((3, 100, 700, 650), power=power, mass=mass), paper
+    yield gears_sheet((2, 156, 720, 650), (3, 142, 710, 650)), "OK 2 2 0 100 32 720 650 70 106 149 667 156 1"
+    yield gears_sheet((3, 100, 660, 660)), "OK 1 3 0 100 0 660 660 66 106 149 667 100 1"
+    yield gears_sheet((3, 100, 650, 660)), "OK 1 3 0 100 100 650 660 66 106 149 667 100 1"
+    yield gears_sheet((2, 169, 700, 650), (3, 129, 701, 650)), "OK 3 2 3 50 29 701 650"
+    yield side_sheet((700, 720, 720, 720), (700, 720, 720, 720)), "OK 1 3"
+    yield side_sheet((700, 721, 721, 721), (721, 700, 700, 700)), "REFUSED 7 3"
+    yield level_sheet("70.0", "70.0", "75.0", "70.0", "70.0"), "REFUSED 7 3"
+
+
+def words(answer):
+    parts = answer if isinstance(answer, tuple) else (answer,)
+    return " ".join(str(part) for part in parts)
+
+
+def driven():
+    """The bytes of data/sheets.bin and of stdout; fails if the paper and the reckoner differ."""
+    text = ""
+    for group in (side_lines, window_lines, gear_lines, urban_lines):
+        for title, paper, found in group():
+            if words(paper) != words(found):
+                raise SystemExit(f"{title}: the paper has {words(paper)}, the reckoner {words(found)}")
+            text += f"{title} {words(paper)}\n"
+    sheets = []
+    for whole, paper in driven_sheets():
+        if paper not in line(whole):
+            raise SystemExit(f"sheet {len(sheets)}: the paper has {paper}, the reckoner {line(whole)}")
+        sheets.append(whole)
+        text += line(whole) + "\n"
+    return packed(sheets), text.encode()
+
+
+def files(directory):
+    return zip((os.path.join(directory, SHEETS), os.path.join(directory, LINES)), driven())
+
+
+def write(directory):
+    os.makedirs(os.path.join(directory, os.path.dirname(SHEETS)), exist_ok=True)
+    for path, content in files(directory):
+        with open(path, "wb") as file:
+            file.write(content)
+        print(f"{path}: {len(content)} bytes")
+    return 0
+
+
+def check(directory):
+    differing = 0
+    for path, content in files(directory):
+        with open(path, "rb") as file:
+            agrees = file.read() == content
+        print(f"{path}: {'as made' if agrees else 'DIFFERS'}")
+        differing += not agrees
+    return 1 if differing else 0
+
+
 def shown(answer):
     """An answer in words; a long list by its ends."""
     is_long = isinstance(answer, list) and len(answer) > 10
@@ -173,7 +296,9 @@ def report(title, paper, found, tempting=None):
     return agrees
 
 
-def main():
+def main(arguments):
+    if len(arguments) == 2 and arguments[0] in ("--write", "--check"):
+        return {"--write": write, "--check": check}[arguments[0]](arguments[1])
     print("Driven examples")
     verdicts = [report(*example) for group in EXAMPLES for example in group()]
     print("Where the spreadsheet tempts")
@@ -183,4 +308,4 @@ def main():
 
 
 if __name__ == "__main__":
-    sys.exit(main())
+    sys.exit(main(sys.argv[1:]))

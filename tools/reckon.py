@@ -527,8 +527,8 @@ def lowers_a_chosen_level(first, second, chosen):
                for at in chosen for side in (8, 12))
 
 
-def is_rising(first, second):
-    """Whether L_urban does not fall from the first sheet to the second; None if demand 3 does not speak of the pair."""
+def rise(first, second):
+    """How far L_urban rises from the first sheet to the second; None if demand 3 does not speak of the pair."""
     try:
         before, after = reckon(first), reckon(second)
     except Refused:
@@ -537,7 +537,7 @@ def is_rising(first, second):
     if (not only_levels_differ(first, second) or chosen != chosen_records(after)
             or lowers_a_chosen_level(first, second, chosen)):
         return None
-    return before.L_urban <= after.L_urban
+    return after.L_urban - before.L_urban
 
 
 if __name__ == "__main__":

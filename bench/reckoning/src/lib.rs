@@ -1,7 +1,7 @@
 //! The evaluation of a pass-by sheet in plain Rust, written from document 01.
 
 mod gears;
-mod reference;
+pub mod reference;
 mod sheet;
 mod window;
 

@@ -1,0 +1,174 @@
+//! Random sessions and damaged sheets for the differential run.
+
+use crate::random::Random;
+use crate::sheets::{put, run, sheet, speeds_for, Record, Vehicle, ACCELERATION, CONSTANT, RECORD, WORKED};
+
+/// The patterns of 20.0 and 140.0.
+const LOWEST: u32 = 0x41A0_0000;
+const HIGHEST: u32 = 0x430C_0000;
+
+/// A sheet to try: a session, a damaged sheet of the corpus, a damaged session, or arbitrary bytes.
+pub fn any_sheet(random: &mut Random, corpus: &[Vec<u8>]) -> Vec<u8> {
+    match random.below(100) {
+        0..3 => (0..random.below(200)).map(|_| random.next() as u8).collect(),
+        3..40 => session(random),
+        40..55 => {
+            let base = session(random);
+            damaged(random, base)
+        }
+        _ => {
+            let base = corpus[random.below(corpus.len())].clone();
+            damaged(random, base)
+        }
+    }
+}
+
+fn number_near(random: &mut Random, lowest: u16, highest: u16) -> u16 {
+    match random.below(12) {
+        0 => lowest,
+        1 => highest,
+        _ => random.between(lowest.into(), highest.into()) as u16,
+    }
+}
+
+fn vehicle(random: &mut Random) -> Vehicle {
+    let common = random.chance(70);
+    Vehicle {
+        start_line: random.below(2) as u8,
+        power: if common { random.between(300, 3000) as u16 } else { number_near(random, 10, 20_000) },
+        mass: if common { random.between(800, 2500) as u16 } else { number_near(random, 300, 5_000) },
+        length: number_near(random, 100, 2_000),
+        rated_speed: random.between(3900, 6000) as u16,
+        background: random.pick(&[300, 400, 500, 550, 580]),
+        limit: random.between(60, 80) as u16,
+    }
+}
+
+/// A session of a few gears with falling accelerations, whose runs mostly lie close together.
+fn session(random: &mut Random) -> Vec<u8> {
+    let vehicle = vehicle(random);
+    let pmr = u32::from(vehicle.power) * 1000 / u32::from(vehicle.mass);
+    // Gears about a_ref, so that each rule comes up.
+    let reference = if (50..=6000).contains(&pmr) { reckoning::reference::a_ref(pmr) } else { WORKED.limit.into() };
+    let gears = random.pick(&[1, 1, 2, 2, 3, 4, 6, 16]);
+    let step = random.pick(&[3, 10, 20, 40, 90]);
+    let mut a = i64::from(reference) + random.between(-20, step * i64::from(gears));
+    let mut runs: Vec<Record> = Vec::new();
+    for gear in 1..=gears {
+        let level = random.between(6200, 7800) as f32 / 100.0;
+        let speeds = speeds_for(a.clamp(0, 600) as u32, vehicle.path());
+        runs.extend((0..runs_of(random)).map(|_| some_run(random, ACCELERATION, gear, level, speeds)));
+        if random.chance(95) {
+            let level = level - random.between(-20, 90) as f32 / 10.0;
+            runs.extend((0..runs_of(random)).map(|_| some_run(random, CONSTANT, gear, level, [500, 500])));
+        }
+        let least = if random.chance(5) { 0 } else { 1 };
+        a -= random.between(least, step);
+    }
+    if random.chance(30) {
+        shuffle(random, &mut runs);
+    }
+    sheet(&vehicle, &runs)
+}
+
+fn runs_of(random: &mut Random) -> usize {
+    if random.chance(3) {
+        3
+    } else {
+        random.pick(&[4, 4, 4, 5, 6, 8])
+    }
+}
+
+fn some_run(random: &mut Random, kind: u8, gear: u8, level: f32, speeds: [u16; 2]) -> Record {
+    let spread = if random.chance(2) { 25 } else { 9 };
+    let mut near = || {
+        let step = random.between(-spread, spread) as f32 / 10.0;
+        let eighths = random.pick(&[0.0, 0.0, 0.025, 0.05, 0.125]);
+        level + step + eighths
+    };
+    let mut record = run(kind, gear, [near(), near()], speeds);
+    match random.below(150) {
+        0 => record[2] = 1,
+        1 => record[3] = 2,
+        2 => {
+            record[4] = 0;
+            record[12..16].fill(0);
+        }
+        3 => put(&mut record, 20, random.between(0, 20_000) as u16),
+        _ => {}
+    }
+    record
+}
+
+fn shuffle(random: &mut Random, runs: &mut [Record]) {
+    for at in (1..runs.len()).rev() {
+        runs.swap(at, random.below(at + 1));
+    }
+}
+
+/// A sheet with one to three changes.
+fn damaged(random: &mut Random, mut sheet: Vec<u8>) -> Vec<u8> {
+    for _ in 0..random.between(1, 3) {
+        sheet = changed(random, sheet);
+    }
+    sheet
+}
+
+fn changed(random: &mut Random, mut sheet: Vec<u8>) -> Vec<u8> {
+    if sheet.is_empty() {
+        return vec![1];
+    }
+    let at = random.below(sheet.len());
+    let record = at / RECORD * RECORD;
+    let is_whole = record + RECORD <= sheet.len();
+    match random.below(16) {
+        0 => sheet[at] = random.next() as u8,
+        1 => sheet[at] ^= 1 << random.below(8),
+        2 => sheet.truncate(at),
+        3 => sheet.truncate(record),
+        4 if is_whole => moved_float(random, &mut sheet[record..], 8),
+        5 | 6 if is_whole => moved_float(random, &mut sheet[record..], 12),
+        7 if is_whole => {
+            let other = random.below(sheet.len() / RECORD) * RECORD;
+            for byte in 0..RECORD {
+                sheet.swap(record + byte, other + byte);
+            }
+        }
+        8 if is_whole => {
+            let copy = sheet[record..record + RECORD].to_vec();
+            sheet.splice(record..record, copy);
+            recount(&mut sheet);
+        }
+        9 if is_whole && sheet.len() > 96 => {
+            sheet.drain(record..record + RECORD);
+            recount(&mut sheet);
+        }
+        10 if is_whole => sheet[record + 1] = random.below(18) as u8,
+        11 if is_whole => sheet[record + 2 + random.below(3)] = random.below(4) as u8,
+        12 | 13 if is_whole => {
+            let place = record + random.pick(&[4, 6, 8, 10, 12, 14, 16, 18, 20]);
+            let value = u16::from_le_bytes([sheet[place], sheet[place + 1]]);
+            put(&mut sheet, place, value.wrapping_add(random.between(-40, 40) as u16));
+        }
+        14 if is_whole => sheet[record..record + RECORD].fill(0),
+        _ => sheet.extend((0..random.below(40)).map(|_| 0)),
+    }
+    sheet
+}
+
+/// A float of a run moved by some places, or set to one at an end of the range or outside of it.
+fn moved_float(random: &mut Random, record: &mut [u8], at: usize) {
+    let pattern = u32::from_le_bytes([record[at], record[at + 1], record[at + 2], record[at + 3]]);
+    let moved = match random.below(8) {
+        0 => random.pick(&[LOWEST - 1, LOWEST, HIGHEST, HIGHEST + 1, 0x7F80_0000, 0x7FC0_0000, 0x8000_0000, 1]),
+        1 => random.between(LOWEST.into(), HIGHEST.into()) as u32,
+        _ => pattern.wrapping_add(random.between(-200_000, 200_000) as u32),
+    };
+    record[at..at + 4].copy_from_slice(&moved.to_le_bytes());
+}
+
+/// The closing record's number of runs set right.
+fn recount(sheet: &mut [u8]) {
+    let records = sheet.len() / RECORD;
+    put(sheet, (records - 1) * RECORD + 2, records.saturating_sub(2) as u16);
+}
