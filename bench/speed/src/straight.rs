@@ -90,10 +90,9 @@ fn rounded(numerator: u32, denominator: u32) -> u32 {
     (numerator + denominator / 2) / denominator
 }
 
-/// The corrected level in tenths, if d is at least 10.0. A level is a whole number of 2^-19, so the product is exact.
+/// The corrected level in tenths, if d is at least 10.0. Product and sum are exact: a float has 24 bits, and an f64 53.
 fn corrected(pattern: u32, background: u32) -> Option<u32> {
-    let units = (f64::from(f32::from_bits(pattern)) * f64::from(1 << 19)) as u32;
-    let level = rounded(10 * units, 1 << 19);
+    let level = (f64::from(f32::from_bits(pattern)) * 10.0 + 0.5) as u32;
     let whole = level.checked_sub(background + 100)? / 10;
     Some(level - CORRECTIONS.get(whole as usize).unwrap_or(&0))
 }

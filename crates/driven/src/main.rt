@@ -70,33 +70,32 @@ fn run_of(left: u16, right: u16) -> ValidRun
     }
 }
 
-// Whether four runs are a window: 1 if so.
-fn window(text: &[u8], a: ValidRun, b: ValidRun, c: ValidRun, d: ValidRun) {
-    let fits = window::fits(Four { a, b, c, d });
-    one(text, if fits { 1 } else { 0 });
+// Whether four runs with these left and right levels are a window: 1 if so.
+fn window(text: &[u8], l: [u16; 4], r: [u16; 4]) {
+    let four = Four {
+        a: run_of(l[0], r[0]),
+        b: run_of(l[1], r[1]),
+        c: run_of(l[2], r[2]),
+        d: run_of(l[3], r[3]),
+    };
+    one(text, window::fits(four) as u64);
 }
 
+// On both sides alike.
+fn alike(text: &[u8], l: [u16; 4]) {
+    window(text, l, l);
+}
+
+// The last two: sides that span 2.0 each, and 4.0 as a sum; sides that span 2.1 each, and nothing as a sum.
 fn windows() {
-    let low = run_of(700, 700);
-    let high = run_of(721, 721);
-    let middle = run_of(710, 710);
-    window(b"runs 1 to 4", low, high, middle, middle);
-    window(b"runs 2 to 5", high, middle, middle, middle);
-    window(b"70.0 with 72.0", low, run_of(720, 720), middle, middle);
-}
-
-// Sides that span 2.0 each, and 4.0 as a sum; sides that span 2.1 each, and nothing as a sum.
-fn sides() {
-    let low = run_of(700, 700);
-    let high = run_of(720, 720);
-    window(b"sides alike, 2.0 each", low, high, high, high);
-    let left = run_of(721, 700);
+    alike(b"runs 1 to 4", [700, 721, 710, 710]);
+    alike(b"runs 2 to 5", [721, 710, 710, 710]);
+    alike(b"70.0 with 72.0", [700, 720, 710, 710]);
+    alike(b"sides alike, 2.0 each", [700, 720, 720, 720]);
     window(
         b"sides opposed, 2.1 each",
-        run_of(700, 721),
-        left,
-        left,
-        left,
+        [700, 721, 721, 721],
+        [721, 700, 700, 700],
     );
 }
 
@@ -180,7 +179,6 @@ fn main() {
     roundings();
     corrections();
     windows();
-    sides();
     references();
     acceleration();
     gear_choice();
