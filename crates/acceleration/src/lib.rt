@@ -1,4 +1,4 @@
-// A run's and a gear's acceleration, and k, which weighs the accelerations of a pair. No level comes in here.
+// A run's and a gear's acceleration, and k, the weight of gear i in a pair. No level comes in here.
 use units::Hundredths;
 ghost use mathlib.Core.Path.{_≡_};
 ghost use Prim.Native.Nat.{_*_, _≤_, _<_};

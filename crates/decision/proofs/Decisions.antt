@@ -20,9 +20,12 @@ use Rattle.reference.specs.Reference.{pmrOf, aUrban, aRef}
 use Rattle.window.specs.declared.Four.{Four}
 use Rattle.rest.specs.Runs.{RunsGood}
 use Rattle.gears.specs.declared.Gear.{Gear}
-use Rattle.gears.specs.Rules.{a, firstNotFalling, choiceOf}
+use Rattle.gears.specs.Remaining.{a, firstNotFalling}
+use Rattle.rules.specs.Rules.{choiceOf}
 use Rattle.units.proofs.Lowest.{found}
-use Rattle.session.specs.Table.{Track, anyRun, stateOf, lacking, lowestLacking, gearsOf, windowsOf}
+use Rattle.state.specs.State.{Track, stateOf}
+use Rattle.session.specs.Table.{lacking, lowestLacking, gearsOf, windowsOf}
+use Rattle.presence.specs.Presence.{anyRun}
 use Rattle.weighing.specs.declared.Reference.{Reference}
 use Rattle.refusal.specs.declared.Refusal.the-variants as refusal
 use Rattle.decision.specs.declared.Decision.the-variants.{Refused}

@@ -14,9 +14,12 @@ use Rattle.sheet.specs.Examining.{lastOf, examined}
 use Rattle.reference.specs.Reference.{pmrOf, aUrban, aRef}
 use Rattle.window.specs.declared.Four.{Four}
 use Rattle.gears.specs.declared.Gear.{Gear}
-use Rattle.gears.specs.declared.Choice.{Choice}
-use Rattle.gears.specs.Rules.{firstNotFalling, choiceOf}
-use Rattle.session.specs.Table.{Track, anyRun, lowestLacking, gearsOf, windowsOf}
+use Rattle.rules.specs.declared.Choice.{Choice}
+use Rattle.gears.specs.Remaining.{firstNotFalling}
+use Rattle.rules.specs.Rules.{choiceOf}
+use Rattle.state.specs.State.{Track}
+use Rattle.session.specs.Table.{lowestLacking, gearsOf, windowsOf}
+use Rattle.presence.specs.Presence.{anyRun}
 use Rattle.weighing.specs.declared.Reference.{Reference}
 use Rattle.urban.specs.Urban.{outcomeOf}
 use Rattle.refusal.specs.declared.Refusal.{Refusal}

@@ -68,7 +68,7 @@ fn decide_table(
         let g = gears[p];
         return Decision::Refused(Refusal::NotFalling(g.number));
     }
-    let choice = gears::choose(gears, count, reference.a_ref, reference.a_urban);
+    let choice = rules::choose(gears, count, reference.a_ref, reference.a_urban);
     finish_with(
         selection::select(sheet, background, reference, gears, windows, count, choice),
         reference,
@@ -88,7 +88,7 @@ fn decide_whole(sheet: &[u8], v: Vehicle, z: Closing) -> Decision
     if 6000 < pmr {
         return Decision::Refused(Refusal::PmrOutOfRange);
     }
-    if !session::any_run(sheet) {
+    if !presence::any_run(sheet) {
         return Decision::Refused(Refusal::NoRun);
     }
     let background = rest::background(v.background, z.background);

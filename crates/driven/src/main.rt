@@ -1,10 +1,10 @@
 // Document 01's driven examples, and what stands under "Where the spreadsheet tempts": each on a line, and then the lines of the sheets of
 // data/sheets.bin.
-use gears::Choice;
 use gears::Gear;
 use level::Reading;
 use level::Side;
 use libc::STDOUT_FILENO;
+use rules::Choice;
 use units::Hundredths;
 use units::Tenths;
 use weighing::Reference;
@@ -149,7 +149,7 @@ fn gear_choice() {
     gears[0] = gear(2, 156);
     gears[1] = gear(3, 142);
     name(b"R 1.49, gears 1.56 and 1.42");
-    choice(gears::choose(gears, 2, Hundredths(149), Hundredths(106)));
+    choice(rules::choose(gears, 2, Hundredths(149), Hundredths(106)));
 }
 
 // kp and L_urban of one gear, at PMR 66.7.

@@ -17,9 +17,10 @@ use Rattle.sheet.specs.Examining.{lastOf, examined}
 use Rattle.sheet.proofs.Examinations.{WholeSheet, whole}
 use Rattle.reference.specs.Reference.{aUrban, aRef}
 use Rattle.reference.proofs.References.{a-urban-the}
-use Rattle.gears.specs.Rules.{firstNotFalling}
-use Rattle.gears.proofs.Choices.{Selectable, sound}
-use Rattle.session.specs.Table.{anyRun, lowestLacking, gearsOf, windowsOf}
+use Rattle.gears.specs.Remaining.{firstNotFalling}
+use Rattle.rules.proofs.Choices.{Selectable, sound}
+use Rattle.presence.specs.Presence.{anyRun}
+use Rattle.session.specs.Table.{lowestLacking, gearsOf, windowsOf}
 use Rattle.weighing.specs.declared.Reference.{Reference}
 use Rattle.urban.specs.declared.Outcome.{Outcome}
 use Rattle.urban.specs.Urban.{outcomeOf}

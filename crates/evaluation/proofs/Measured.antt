@@ -8,11 +8,12 @@ use Rattle.window.specs.declared.Window.{Window}
 use Rattle.window.specs.declared.Window.the-variants as window
 use Rattle.window.specs.Windows.{largerSum}
 use Rattle.gears.specs.declared.Gear.{Gear}
-use Rattle.gears.specs.declared.Choice.{Choice}
-use Rattle.gears.specs.declared.Choice.the-variants as choice
-use Rattle.gears.specs.Rules as rules
-use Rattle.gears.proofs.Choices.{Selectable}
-use Rattle.session.specs.Table.{Track, windowOf, gearAcceleration, gearsOf, windowsOf}
+use Rattle.rules.specs.declared.Choice.{Choice}
+use Rattle.rules.specs.declared.Choice.the-variants as choice
+use Rattle.gears.specs.Remaining as remaining
+use Rattle.rules.proofs.Choices.{Selectable}
+use Rattle.state.specs.State.{Track, windowOf, gearAcceleration}
+use Rattle.session.specs.Table.{gearsOf, windowsOf}
 use Rattle.session.proofs.Entries.{Remaining, remaining-at}
 use Rattle.demand.specs.Figure as figure
 use Rattle.selection.specs.Selection.{Selected, lacking, gears, noFour, gearAt, windowAt, weighedGear, selectOne, selectPair, selectedIn}
@@ -45,7 +46,7 @@ module _ (t : Track) where
   measured : (p : ℕ) (h : Four) → p < length (gearsOf t) → constant (gear p .number) ≡ window.Runs h → Measured t (weighedGear (gear p) (four p) h)
   unfolding gear four constant gearAt windowAt weighedGear
   measured p h l e =
-      let r : Remaining t (gear p) (four p) = remaining-at t rules.nobody noFour p l in
+      let r : Remaining t (gear p) (four p) = remaining-at t remaining.nobody noFour p l in
       record { f = four p; h = h; acceleration-window = r .window-is; constant-window = e; a = r .acceleration-is; w = refl; c = refl }
 
   one : (rule p : ℕ) (w : Window) → p < length (gearsOf t) → constant (gear p .number) ≡ w → Measuring t (selectOne rule (gear p) (four p) w)

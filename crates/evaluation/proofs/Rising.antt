@@ -15,7 +15,7 @@ use Rattle.window.specs.declared.Window.the-variants as window
 use Rattle.rest.specs.Runs.{candidateOf}
 use Rattle.window.specs.Windows.{largerSum}
 use Rattle.rest.proofs.Members.{Member, window-members}
-use Rattle.session.specs.Table.{windowOf, gearAcceleration}
+use Rattle.state.specs.State.{windowOf, gearAcceleration}
 use Rattle.urban.specs.declared.Outcome.{Outcome}
 use Rattle.weighing.specs.declared.Reference.{Reference}
 use Rattle.demand.specs.Figure.{Gears, one, pair}

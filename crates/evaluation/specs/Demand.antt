@@ -12,7 +12,8 @@ use Rattle.records.specs.Records.{recordAt}
 use Rattle.records.specs.Fields.{byte}
 use Rattle.window.specs.declared.Window.{Window}
 use Rattle.window.specs.declared.Window.the-variants as window
-use Rattle.session.specs.Table.{Track, windowOf, gearsOf, windowsOf}
+use Rattle.state.specs.State.{Track, windowOf}
+use Rattle.session.specs.Table.{gearsOf, windowsOf}
 use Rattle.weighing.specs.declared.Reference.{Reference}
 use Rattle.demand.specs.Fractions.{Frac, _over_, apart, _≼_}
 use Rattle.demand.specs.Figure.{figure, one, pair}

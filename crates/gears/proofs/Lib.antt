@@ -1,4 +1,1 @@
 pub mod Places
-pub mod Nearest
-pub mod Choices
-mod Examples

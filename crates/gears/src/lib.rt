@@ -1,11 +1,9 @@
-// Gears: neighbours that do not fall, and the rules that decide which gear or pair of gears counts. No level comes in here.
+// Gears that remain, and neighbours that do not fall. No level comes in here.
 use units::Hundredths;
 ghost use mathlib.Core.Path.{_≡_};
-ghost use mathlib.Core.Bool.{cond, _&&_};
-ghost use Prim.Native.Nat.{_+_, _-_, _*_, _≤_, _<_};
-ghost use lib.Dec.{ltb};
+ghost use Prim.Native.Nat.{_≤_};
 ghost use lib.ListN.{take};
-ghost use Rattle.gears.specs.Rules.{firstNotFalling, apart, near, nearest, jOf, firstBelow, acrossOf, choiceOf};
+ghost use Rattle.gears.specs.Remaining.{firstNotFalling};
 
 // A gear that remains.
 pub struct Gear {
@@ -13,20 +11,8 @@ pub struct Gear {
     pub acceleration: Hundredths,
 }
 
-// What the rules decide on: the rule, and a place among the remaining gears.
-pub enum Choice {
-    // that gear alone
-    One(u8, usize),
-    // that gear and the next one
-    Pair(u8, usize),
-    Nothing,
-}
-
 // How many gears a vehicle can have.
 pub const GEARS: usize = 16;
-
-// 3.00 m/s², above which a gear is not chosen by itself.
-const CEILING: u16 = 300;
 
 // The first of the first `count` gears whose acceleration is not above the next one's; count - 1 if there is none.
 pub fn first_not_falling(gears: [Gear; 16], count: usize) -> usize
@@ -43,130 +29,4 @@ pub fn first_not_falling(gears: [Gear; 16], count: usize) -> usize
         i += 1;
     }
     i
-}
-
-// |x − y|
-fn distance(x: u16, y: u16) -> u16
-    ensures { λ r. ⌜ r ≡ apart x y ⌝ }
-{
-    if x < y { y - x } else { x - y }
-}
-
-// Whether rule 2 is for an acceleration.
-fn is_near(reference: u16, x: u16) -> bool
-    ensures { λ r. ⌜ r ≡ near reference x ⌝ }
-{
-    (20 * distance(x, reference) as u32 <= reference as u32) & (x <= CEILING)
-}
-
-// The nearest gear so far: its place, and how far it is from R. (65,536 is farther than any.)
-struct Best {
-    place: usize,
-    distance: u32,
-}
-
-// The gear at `place`, with the acceleration x, taken into account.
-fn better(best: Best, place: usize, x: u16, reference: u16) -> Best
-    ensures { λ r. ⌜ r ≡ cond (near reference x && ltb (apart x reference) (best .distance)) (record { place = place; distance = apart x reference }) best ⌝ }
-{
-    let d = distance(x, reference) as u32;
-    if is_near(reference, x) & (d < best.distance) {
-        return Best { place, distance: d };
-    }
-    best
-}
-
-// The place that rule 2 takes; `count` if it takes none.
-fn nearest_place(gears: [Gear; 16], count: usize, reference: u16) -> usize
-    requires { ⌜ count ≤ 16 ⌝ }
-    ensures { λ r. ⌜ r ≡ nearest reference (take count gears) ⌝ }
-{
-    let mut best = Best {
-        place: count,
-        distance: 65536,
-    };
-    let mut i = 0;
-    while i < count {
-        let g = gears[i];
-        best = better(best, i, g.acceleration.0, reference);
-        i += 1;
-    }
-    best.place
-}
-
-// The place of j: one past the last gear that reaches R; 0 if none does.
-fn j_place(gears: [Gear; 16], count: usize, reference: u16) -> usize
-    requires { ⌜ count ≤ 16 ⌝ }
-    ensures { λ r. ⌜ r ≡ jOf reference (take count gears) ⌝ }
-{
-    let mut j = count;
-    while 0 < j {
-        let g = gears[j - 1];
-        if reference <= g.acceleration.0 {
-            return j;
-        }
-        j -= 1;
-    }
-    j
-}
-
-// The first gear below the ceiling; `count` if there is none.
-fn below_ceiling(gears: [Gear; 16], count: usize) -> usize
-    requires { ⌜ count ≤ 16 ⌝ }
-    ensures { λ r. ⌜ r ≡ firstBelow (take count gears) ⌝ }
-{
-    let mut i = 0;
-    while i < count {
-        let g = gears[i];
-        if g.acceleration.0 < CEILING {
-            return i;
-        }
-        i += 1;
-    }
-    i
-}
-
-// Rules 3 to 5.
-fn across(gears: [Gear; 16], count: usize, urban: u16, j: usize) -> Choice
-    requires { ⌜ count ≤ 16 ⌝ }
-    ensures { λ r. ⌜ r ≡ acrossOf urban (take count gears) j ⌝ }
-{
-    if j == 0 {
-        return Choice::Nothing;
-    }
-    if count <= j {
-        return Choice::Nothing;
-    }
-    let i = j - 1;
-    let gi = gears[i];
-    if gi.acceleration.0 <= CEILING {
-        return Choice::Pair(3, i);
-    }
-    let gj = gears[j];
-    if urban <= gj.acceleration.0 {
-        let f = below_ceiling(gears, count);
-        if f < count {
-            return Choice::One(4, f);
-        }
-        return Choice::Nothing;
-    }
-    Choice::Pair(5, i)
-}
-
-// The five rules over the first `count` of `gears`.
-pub fn choose(gears: [Gear; 16], count: usize, reference: Hundredths, urban: Hundredths) -> Choice
-    requires { ⌜ count ≤ 16 ⌝ }
-    ensures { λ r. ⌜ r ≡ choiceOf (reference .0) (urban .0) (take count gears) ⌝ }
-{
-    if count == 0 {
-        return Choice::Nothing;
-    }
-    if count == 1 {
-        return Choice::One(1, 0);
-    }
-    let nearest = nearest_place(gears, count, reference.0);
-    if nearest < count {
-        return Choice::One(2, nearest);
-    }
-    across(gears, count, urban.0, j_place(gears, count, reference.0))
 }

@@ -18,11 +18,13 @@ use Rattle.window.specs.declared.Four.{Four}
 use Rattle.window.specs.declared.Window.{Window}
 use Rattle.window.specs.declared.Window.the-variants as window
 use Rattle.gears.specs.declared.Gear.{Gear}
-use Rattle.gears.specs.declared.Choice.{Choice}
-use Rattle.gears.specs.declared.Choice.the-variants as choice
-use Rattle.session.specs.Table.{Track, anyRun, lowestLacking, gearsOf, windowsOf}
+use Rattle.rules.specs.declared.Choice.{Choice}
+use Rattle.rules.specs.declared.Choice.the-variants as choice
+use Rattle.state.specs.State.{Track}
+use Rattle.session.specs.Table.{lowestLacking, gearsOf, windowsOf}
+use Rattle.presence.specs.Presence.{anyRun}
 use Rattle.weighing.specs.declared.Reference.{Reference}
-use Rattle.gears.specs.Rules.{firstNotFalling}
+use Rattle.gears.specs.Remaining.{firstNotFalling}
 use Rattle.refusal.specs.declared.Refusal.{Refusal}
 use Rattle.refusal.specs.declared.Refusal.the-variants as refusal
 use Rattle.decision.specs.declared.Decision.{Decision}

@@ -24,8 +24,12 @@ use Rattle.sheet.specs.Examining.{wrongSize, noVehicle, noClosing, goodAt, lowe
 use Rattle.rest.specs.Runs.{bothSides, validOf, candidateOf, restFrom, restOf}
 use Rattle.window.specs.Windows.{spanned, fitting, nobody as window·nobody, fourAt, firstPlace, firstWindow, largerSum}
 use Rattle.acceleration.specs.Acceleration.{accelerationOf, meanOf, kOf}
-use Rattle.gears.specs.Rules.{nobody as gears·nobody, a, firstNotFalling, apart, near, nearer, nearest, pastLast, jOf, firstBelow, oneAt, acrossOf, choiceOf}
-use Rattle.session.specs.Table.{some, accelerates, anyRun, hasRun, windowOf, within, gearAcceleration, byWindow, stateOf, lowestLacking, remainingFrom, remaining, gearsOf, windowsOf}
+use Rattle.gears.specs.Remaining.{nobody as gears·nobody, a, firstNotFalling}
+use Rattle.nearest.specs.Nearest.{apart, near, nearer, nearest}
+use Rattle.rules.specs.Rules.{pastLast, jOf, firstBelow, oneAt, acrossOf, choiceOf}
+use Rattle.presence.specs.Presence.{some, accelerates, anyRun, hasRun}
+use Rattle.state.specs.State.{windowOf, within, gearAcceleration, byWindow, stateOf}
+use Rattle.session.specs.Table.{lowestLacking, remainingFrom, remaining, gearsOf, windowsOf}
 use Rattle.demand.specs.Demand.{chosenOf}
 use Rattle.urban.specs.Urban.{partPower, lUrbanOf, outcomeOf}
 use Rattle.weighing.specs.Weighing.{weighedLevel, basisOf}

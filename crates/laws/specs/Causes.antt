@@ -9,10 +9,12 @@ use Rattle.records.specs.Records.{records}
 use Rattle.sheet.specs.Examining.{wrongSize, noVehicle, noClosing, lowestBroken}
 use Rattle.window.specs.declared.Window.{Window}
 use Rattle.window.specs.declared.Window.the-variants as window
-use Rattle.gears.specs.declared.Choice.{Choice}
-use Rattle.gears.specs.declared.Choice.the-variants as choice
-use Rattle.gears.specs.Rules.{firstNotFalling}
-use Rattle.session.specs.Table.{Track, anyRun, windowOf, lowestLacking, gearsOf}
+use Rattle.rules.specs.declared.Choice.{Choice}
+use Rattle.rules.specs.declared.Choice.the-variants as choice
+use Rattle.gears.specs.Remaining.{firstNotFalling}
+use Rattle.state.specs.State.{Track, windowOf}
+use Rattle.session.specs.Table.{lowestLacking, gearsOf}
+use Rattle.presence.specs.Presence.{anyRun}
 use Rattle.evaluation.specs.declared.Answer.{Answer}
 use Rattle.evaluation.specs.declared.Answer.the-variants.{Accepted, Refused}
 use Rattle.refusal.specs.Refusal.{numberOf}

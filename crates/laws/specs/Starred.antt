@@ -13,10 +13,10 @@ use Rattle.reference.specs.Reference.{aUrban, aRef}
 use Rattle.window.specs.declared.ValidRun.{ValidRun}
 use Rattle.window.specs.Windows.{firstWindow}
 use Rattle.gears.specs.declared.Gear.{Gear}
-use Rattle.gears.specs.declared.Choice.{Choice}
-use Rattle.gears.specs.declared.Choice.the-variants as choice
+use Rattle.rules.specs.declared.Choice.{Choice}
+use Rattle.rules.specs.declared.Choice.the-variants as choice
 use Rattle.acceleration.specs.Acceleration.{accelerationOf}
-use Rattle.gears.specs.Rules.{choiceOf}
+use Rattle.rules.specs.Rules.{choiceOf}
 use Rattle.urban.specs.Urban.{lUrbanOf}
 use Rattle.decision.specs.declared.Decision.{Decision}
 use Rattle.decision.specs.declared.Decision.the-variants as decision

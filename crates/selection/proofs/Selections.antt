@@ -12,12 +12,12 @@ use Rattle.window.specs.declared.Window.the-variants as window
 use Rattle.window.specs.Windows.{levelOf}
 use Rattle.gears.specs.declared.Gear.{Gear}
 use Rattle.acceleration.specs.Acceleration.{kOf}
-use Rattle.gears.specs.Rules as rules
-use Rattle.gears.specs.declared.Choice.{Choice}
-use Rattle.gears.specs.declared.Choice.the-variants as choice
-use Rattle.gears.proofs.Choices.{Selectable}
+use Rattle.gears.specs.Remaining as remaining
+use Rattle.rules.specs.declared.Choice.{Choice}
+use Rattle.rules.specs.declared.Choice.the-variants as choice
+use Rattle.rules.proofs.Choices.{Selectable}
 use Rattle.acceleration.proofs.Accelerations.{k-most}
-use Rattle.session.specs.Table.{windowOf}
+use Rattle.state.specs.State.{windowOf}
 use Rattle.weighing.specs.Weighing.{basisOf}
 use Rattle.window.specs.Windows as windows
 use Rattle.window.specs.declared.ValidRun.{ValidRun}
@@ -48,8 +48,8 @@ pair-chosen r rule i j fi hi fj hj k wi wj ci cj e p q s t = alike rule (i .numb
 
 -- the gear and the window at a place of a table, as the code reads them
 pub gear-taken : (gs : List Gear) (count p : ℕ) → p < count → gearAt (take count gs) p ≡ getD gs p (record { number = 0; acceleration = record { 0 = 0 } })
-unfolding gearAt rules.nobody
-gear-taken gs count p h = getD-take count gs p rules.nobody h
+unfolding gearAt remaining.nobody
+gear-taken gs count p h = getD-take count gs p remaining.nobody h
 
 abbrev none : ValidRun
 none = record { left = record { 0 = 0 }; right = record { 0 = 0 }; start = 0; end = 0; engine = 0; number = 0 }
@@ -67,7 +67,7 @@ Straddling r (gears g) = Straddled r g
 module _ (r : Reference) (s : List ℕ) (background : ℕ) (gs : List Gear) (ws : List Four) where
   -- of a pair, a_ref lies between the two accelerations
   pub straddling : (c : Choice) → Selectable (r .«a_ref» .0) gs c → Straddling r (selectedIn s background gs ws c)
-  unfolding selectedIn rules.a gearAt selectOne selectPair weighedGear
+  unfolding selectedIn remaining.a gearAt selectOne selectPair weighedGear
   straddling choice.Nothing h = tt
   straddling (choice.One rule p) h = by (windowOf s background 3 (gearAt gs p .number))
     where

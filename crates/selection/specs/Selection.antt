@@ -7,10 +7,10 @@ use Rattle.window.specs.declared.Window.{Window}
 use Rattle.window.specs.declared.Window.the-variants as window
 use Rattle.window.specs.Windows.{nobody, largerSum}
 use Rattle.gears.specs.declared.Gear.{Gear}
-use Rattle.gears.specs.declared.Choice.{Choice}
-use Rattle.gears.specs.declared.Choice.the-variants as choice
-use Rattle.gears.specs.Rules as rules
-use Rattle.session.specs.Table.{windowOf}
+use Rattle.rules.specs.declared.Choice.{Choice}
+use Rattle.rules.specs.declared.Choice.the-variants as choice
+use Rattle.gears.specs.Remaining as remaining
+use Rattle.state.specs.State.{windowOf}
 use Rattle.weighing.specs.declared.Reference.{Reference}
 use Rattle.demand.specs.Figure as figure
 use Rattle.demand.specs.Demand.{chosenOf}
@@ -24,7 +24,7 @@ noFour = record { a = nobody; b = nobody; c = nobody; d = nobody }
 
 -- the gear at a place of the remaining ones, and its acceleration window
 unfoldable pub gearAt : List Gear → ℕ → Gear
-gearAt gs p = getD gs p rules.nobody
+gearAt gs p = getD gs p remaining.nobody
 
 unfoldable pub windowAt : List Four → ℕ → Four
 windowAt ws p = getD ws p noFour

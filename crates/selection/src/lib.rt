@@ -1,8 +1,8 @@
 // The chosen gears with their levels, or the refusal of what they lack.
-use gears::Choice;
 use gears::Gear;
 use records::Record;
 use refusal::Refusal;
+use rules::Choice;
 use units::Tenths;
 use weighing::Chosen;
 use weighing::One;
@@ -14,10 +14,10 @@ ghost use mathlib.Core.Path.{_≡_};
 ghost use Prim.Native.Nat.{_≤_, _<_};
 ghost use lib.ListN.{take};
 ghost use Rattle.rest.specs.Runs.{RunsGood};
-ghost use Rattle.session.specs.Table.{windowOf};
+ghost use Rattle.state.specs.State.{windowOf};
 ghost use Rattle.demand.specs.Figure.{pair};
 ghost use Rattle.selection.specs.Selection.{gears, weighedGear, selectOne, selectPair, selectedIn, selectionBy};
-ghost use Rattle.gears.proofs.Choices.{Selectable};
+ghost use Rattle.rules.proofs.Choices.{Selectable};
 
 // The chosen gears with their levels, or the refusal of what is lacking.
 pub enum Selection {

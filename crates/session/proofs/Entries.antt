@@ -9,9 +9,11 @@ use Rattle.window.specs.declared.Four.{Four}
 use Rattle.window.specs.declared.Window.{Window}
 use Rattle.window.specs.declared.Window.the-variants as window
 use Rattle.gears.specs.declared.Gear.{Gear}
-use Rattle.session.specs.declared.State.{State}
-use Rattle.session.specs.declared.State.the-variants.{Remains, Dropped, NoWindow, NoRun}
-use Rattle.session.specs.Table.{Track, hasRun, windowOf, within, gearAcceleration, byWindow, stateOf, Entry, ahead, remainingFrom, remaining, gearsOf, windowsOf}
+use Rattle.state.specs.declared.State.{State}
+use Rattle.state.specs.declared.State.the-variants.{Remains, Dropped, NoWindow, NoRun}
+use Rattle.state.specs.State.{Track, windowOf, within, gearAcceleration, byWindow, stateOf}
+use Rattle.session.specs.Table.{Entry, ahead, remainingFrom, remaining, gearsOf, windowsOf}
+use Rattle.presence.specs.Presence.{hasRun}
 
 -- gear g remains in t with the acceleration window f
 pub record Remaining (t : Track) (g : Gear) (f : Four) : Type 0 where

@@ -6,9 +6,9 @@ use mathlib.Core.List.{List}
 use Prim.Native.Nat.{ℕ}
 use lib.ListN.{length, take}
 use Rattle.gears.specs.declared.Gear.{Gear}
-use Rattle.gears.specs.declared.Choice.{Choice}
+use Rattle.rules.specs.declared.Choice.{Choice}
 use Rattle.gears.proofs.Places.{counted}
-use Rattle.gears.proofs.Choices.{Selectable, sound}
+use Rattle.rules.proofs.Choices.{Selectable, sound}
 use Rattle.window.specs.declared.Four.{Four}
 use Rattle.refusal.specs.declared.Refusal.the-variants.{NotFalling}
 use Rattle.decision.specs.declared.Decision.the-variants.{Refused}

@@ -7,7 +7,9 @@ use borrow.Author.Tests.{not-true, not-false}
 use Prim.Native.Nat.{ℕ, _+_, _≤_}
 use lib.Dec.{eqb}
 use Rattle.reference.specs.Reference.{pmrOf}
-use Rattle.session.specs.Table.{Track, trackOf, Tabled, anyRun}
+use Rattle.state.specs.State.{Track, trackOf}
+use Rattle.session.specs.Table.{Tabled}
+use Rattle.presence.specs.Presence.{anyRun}
 use Rattle.refusal.specs.declared.Refusal.the-variants.{NoWindow}
 use Rattle.decision.specs.declared.Decision.the-variants.{Refused}
 use Rattle.decision.specs.Decision.{trackIn, referenceAt, decideWhole, decisionOf}

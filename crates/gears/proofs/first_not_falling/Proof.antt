@@ -12,7 +12,7 @@ use Rattle.gears.specs.declared.Gear.{Gear}
 use Rattle.gears.proofs.Places.{counted, read, a-taken}
 use Rattle.units.specs.Lowest.{lowest}
 use Rattle.units.proofs.Lowest.{Passed, passed-start, passed-next, passed-stop, passed-end}
-use Rattle.gears.specs.Rules.{a, firstNotFalling}
+use Rattle.gears.specs.Remaining.{a, firstNotFalling}
 use Rattle.gears.proofs.first_not_falling.Statement.{statement}
 use Rattle.gears.proofs.first_not_falling.Tie as tie
 

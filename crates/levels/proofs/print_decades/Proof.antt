@@ -1,6 +1,5 @@
 -- `levels::print_decades` is safe and ends: each turn takes the next ten decibels. Assumes nothing.
 use Prim.Native.Nat.{_-_, _≤_}
-use native.Mathlib.Omega.{arith}
 use borrow.Author.Needs.{needs}
 use Rattle.levels.proofs.print_decades.Statement.{statement}
 use Rattle.levels.proofs.print_decades.Tie as tie

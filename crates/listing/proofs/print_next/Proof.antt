@@ -2,7 +2,7 @@
 use borrow.Author.Needs.{needs}
 use mathlib.Core.Path.{sym}
 use native.Mathlib.Omega.{arith}
-use lib.ListN.{length-append, length-drop}
+use lib.ListN.{length-append}
 use lib.Seq.{length-take-le}
 use Rattle.listing.proofs.print_next.Statement.{statement}
 use Rattle.listing.proofs.print_next.Tie as tie

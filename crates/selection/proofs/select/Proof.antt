@@ -4,15 +4,15 @@ use mathlib.Core.Path.{_≡_, sym, ap, ap₂, subst, _∙_}
 use native.Mathlib.Omega.{arith}
 use Prim.Native.Nat.{ℕ, _+_, _≤_, _<_}
 use lib.ListN.{length, take, length-take}
-use Rattle.gears.specs.declared.Choice.{Choice}
-use Rattle.gears.specs.Rules.{a}
-use Rattle.gears.proofs.Choices.{Selectable, Paired}
+use Rattle.rules.specs.declared.Choice.{Choice}
+use Rattle.gears.specs.Remaining.{a}
+use Rattle.rules.proofs.Choices.{Selectable, Paired}
 use Rattle.window.specs.Windows as windows
 use Rattle.selection.specs.Selection.{selectedIn, selectionBy, selectOne, selectPair}
 use Rattle.gears.proofs.Places.{a-taken}
 use Rattle.gears.specs.declared.Gear.{Gear}
 use Rattle.window.specs.declared.Four.{Four}
-use Rattle.session.specs.Table.{windowOf}
+use Rattle.state.specs.State.{windowOf}
 use Rattle.selection.proofs.Selections.{gear-taken, window-taken}
 use Rattle.selection.specs.declared.Selection.{Selection}
 use Rattle.selection.proofs.select.Statement.{statement}

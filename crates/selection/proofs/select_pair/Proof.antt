@@ -2,7 +2,7 @@
 use borrow.Author.Needs.{needs}
 use mathlib.Core.Path.{sym, ap, ap₂, _∙_}
 use Rattle.window.specs.declared.Window.{Window}
-use Rattle.session.specs.Table.{windowOf}
+use Rattle.state.specs.State.{windowOf}
 use Rattle.selection.specs.Selection.{selectPair, selectionBy}
 use Rattle.selection.specs.declared.Selection.{Selection}
 use Rattle.selection.proofs.select_pair.Statement.{statement}

@@ -11,10 +11,11 @@ use lib.ListN.{length, set, length-set}
 use Rattle.units.proofs.Lowest.{Passed, passed-start, passed-next, passed-stop, passed-end}
 use Rattle.window.specs.declared.Four.{Four}
 use Rattle.gears.specs.declared.Gear.{Gear}
-use Rattle.session.specs.Table.{Track, trackOf, Entry, stateOf, lacking, ahead, lowestLacking, gearsOf, windowsOf}
+use Rattle.state.specs.State.{Track, trackOf, stateOf}
+use Rattle.session.specs.Table.{Entry, lacking, ahead, lowestLacking, gearsOf, windowsOf}
 use Rattle.session.proofs.Tables.{Tabling, tabling-start, tabling-remains, tabling-other, tabling-all}
-use Rattle.session.specs.declared.State.{State}
-use Rattle.session.specs.declared.State.the-variants.{Remains, Dropped, NoRun}
+use Rattle.state.specs.declared.State.{State}
+use Rattle.state.specs.declared.State.the-variants.{Remains, Dropped, NoRun}
 use Rattle.session.proofs.table_of.Statement.{statement}
 use Rattle.session.proofs.table_of.Tie as tie
 
