@@ -17,8 +17,8 @@ use Rattle.records.proofs.Layouts.{vehicle-ranges}
 use Rattle.sheet.proofs.Examinations.{WholeSheet, whole}
 use Rattle.units.specs.declared.Hundredths.{Hundredths}
 use Rattle.reference.specs.Reference.{pmrOf, aUrban, aRef}
-use Rattle.window.specs.declared.Four.{Four}
-use Rattle.rest.specs.Runs.{RunsGood}
+use Rattle.four.specs.declared.Four.{Four}
+use Rattle.run.specs.Runs.{RunsGood}
 use Rattle.gears.specs.declared.Gear.{Gear}
 use Rattle.gears.specs.Remaining.{a, firstNotFalling}
 use Rattle.rules.specs.Rules.{choiceOf}

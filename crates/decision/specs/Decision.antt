@@ -12,7 +12,7 @@ use Rattle.records.specs.Records.{recordAt}
 use Rattle.records.specs.Layout.{vehicleIn, closingIn}
 use Rattle.sheet.specs.Examining.{lastOf, examined}
 use Rattle.reference.specs.Reference.{pmrOf, aUrban, aRef}
-use Rattle.window.specs.declared.Four.{Four}
+use Rattle.four.specs.declared.Four.{Four}
 use Rattle.gears.specs.declared.Gear.{Gear}
 use Rattle.rules.specs.declared.Choice.{Choice}
 use Rattle.gears.specs.Remaining.{firstNotFalling}

@@ -1,4 +1,5 @@
 // What a byte string decides on: the first refusal of the table whose cause holds, or the fields of the result.
+use four::Four;
 use gears::Gear;
 use records::Closing;
 use records::Vehicle;
@@ -8,14 +9,13 @@ use sheet::Examination;
 use units::Tenths;
 use urban::Outcome;
 use weighing::Reference;
-use window::Four;
 ghost use mathlib.Core.Path.{_≡_};
 ghost use mathlib.Core.Bool.{cond};
 ghost use Prim.Native.Nat.{_+_, _≤_};
 ghost use lib.Dec.{eqb};
 ghost use lib.ListN.{take};
 ghost use Rattle.sheet.specs.Examining.{examined};
-ghost use Rattle.rest.specs.Runs.{RunsGood};
+ghost use Rattle.run.specs.Runs.{RunsGood};
 ghost use Rattle.decision.specs.Decision.{finishBy, decideGears, decisionOf};
 ghost use Rattle.sheet.specs.declared.Examination.the-variants.{Whole};
 ghost use Rattle.selection.specs.Sound.{Weighable};
@@ -91,7 +91,7 @@ fn decide_whole(sheet: &[u8], v: Vehicle, z: Closing) -> Decision
     if !presence::any_run(sheet) {
         return Decision::Refused(Refusal::NoRun);
     }
-    let background = rest::background(v.background, z.background);
+    let background = valid::background(v.background, z.background);
     let table = session::table_of(sheet, background, v.rated_speed, path_of(v));
     let lacking = table.lacking;
     if lacking < 16 {

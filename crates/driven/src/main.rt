@@ -1,5 +1,7 @@
 // Document 01's driven examples, and what stands under "Where the spreadsheet tempts": each on a line, and then the lines of the sheets of
 // data/sheets.bin.
+use four::Four;
+use four::ValidRun;
 use gears::Gear;
 use level::Reading;
 use level::Side;
@@ -8,8 +10,6 @@ use rules::Choice;
 use units::Hundredths;
 use units::Tenths;
 use weighing::Reference;
-use window::Four;
-use window::ValidRun;
 ghost use mathlib.Core.Path.{_≡_};
 ghost use Prim.Native.Nat.{_≤_};
 
@@ -78,7 +78,7 @@ fn window(text: &[u8], l: [u16; 4], r: [u16; 4]) {
         c: run_of(l[2], r[2]),
         d: run_of(l[3], r[3]),
     };
-    one(text, window::fits(four) as u64);
+    one(text, four::fits(four) as u64);
 }
 
 // On both sides alike.

@@ -26,10 +26,10 @@ use Rattle.records.proofs.Layouts.{vehicle-ranges, closing-ranges}
 use Rattle.sheet.proofs.Examinations.{WholeSheet}
 use Rattle.records.proofs.Shown.{byte-of}
 use Rattle.reference.specs.Reference.{pmrOf}
-use Rattle.window.specs.declared.ValidRun.{ValidRun}
-use Rattle.rest.specs.declared.Validity.the-variants.{Valid}
-use Rattle.rest.specs.Runs.{candidateOf}
-use Rattle.rest.proofs.Members.{counts}
+use Rattle.four.specs.declared.ValidRun.{ValidRun}
+use Rattle.valid.specs.declared.Validity.the-variants.{Valid}
+use Rattle.valid.specs.Valid.{candidateOf}
+use Rattle.valid.proofs.Counting.{counts}
 use Rattle.decision.specs.Decision.{trackIn, sheetVehicle, sheetTrack, pmrIn}
 use Rattle.evaluation.specs.Demand.{ofLevel, OnlyLevels, floatAt, lower}
 

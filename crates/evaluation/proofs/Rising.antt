@@ -9,11 +9,11 @@ use lib.ListN.{length, getD, drop}
 use Rattle.units.specs.Bytes.{number}
 use Rattle.records.specs.Records.{records}
 use Rattle.sheet.proofs.Examinations.{WholeSheet}
-use Rattle.window.specs.declared.ValidRun.{ValidRun}
-use Rattle.window.specs.declared.Four.{Four}
+use Rattle.four.specs.declared.ValidRun.{ValidRun}
+use Rattle.four.specs.declared.Four.{Four}
 use Rattle.window.specs.declared.Window.the-variants as window
-use Rattle.rest.specs.Runs.{candidateOf}
-use Rattle.window.specs.Windows.{largerSum}
+use Rattle.valid.specs.Valid.{candidateOf}
+use Rattle.four.specs.Four.{largerSum}
 use Rattle.rest.proofs.Members.{Member, window-members}
 use Rattle.state.specs.State.{windowOf, gearAcceleration}
 use Rattle.urban.specs.declared.Outcome.{Outcome}

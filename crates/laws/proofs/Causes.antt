@@ -14,7 +14,7 @@ use Rattle.sheet.specs.declared.Examination.the-variants as examination
 use Rattle.records.specs.Records.{records, recordAt}
 use Rattle.records.specs.Layout.{vehicleIn, closingIn}
 use Rattle.sheet.specs.Examining.{lastOf, wrongSize, noVehicle, noClosing, lowestBroken, examined}
-use Rattle.window.specs.declared.Four.{Four}
+use Rattle.four.specs.declared.Four.{Four}
 use Rattle.window.specs.declared.Window.{Window}
 use Rattle.window.specs.declared.Window.the-variants as window
 use Rattle.gears.specs.declared.Gear.{Gear}

@@ -21,8 +21,10 @@ use Rattle.records.specs.Fields.{zeros}
 use Rattle.records.specs.Layout.{vehicleTests, vehicleGood, vehicleIn, closingTests, closingGood, closingIn}
 use Rattle.run.specs.Layout.{runTests, runGood, runIn, readingFrom}
 use Rattle.sheet.specs.Examining.{wrongSize, noVehicle, noClosing, goodAt, lowestBroken, examined}
-use Rattle.rest.specs.Runs.{bothSides, validOf, candidateOf, restFrom, restOf}
-use Rattle.window.specs.Windows.{spanned, fitting, nobody as window·nobody, fourAt, firstPlace, firstWindow, largerSum}
+use Rattle.valid.specs.Valid.{bothSides, validOf, candidateOf}
+use Rattle.rest.specs.Rest.{restFrom, restOf}
+use Rattle.four.specs.Four.{spanned, fitting, largerSum}
+use Rattle.window.specs.Windows.{nobody as window·nobody, fourAt, firstPlace, firstWindow}
 use Rattle.acceleration.specs.Acceleration.{accelerationOf, meanOf, kOf}
 use Rattle.gears.specs.Remaining.{nobody as gears·nobody, a, firstNotFalling}
 use Rattle.nearest.specs.Nearest.{apart, near, nearer, nearest}

@@ -10,7 +10,7 @@ use Rattle.level.specs.declared.Side.the-variants as side
 use Rattle.level.specs.Level.{tenthsOf}
 use Rattle.level.specs.Correction.{correctedSide}
 use Rattle.reference.specs.Reference.{aUrban, aRef}
-use Rattle.window.specs.declared.ValidRun.{ValidRun}
+use Rattle.four.specs.declared.ValidRun.{ValidRun}
 use Rattle.window.specs.Windows.{firstWindow}
 use Rattle.gears.specs.declared.Gear.{Gear}
 use Rattle.rules.specs.declared.Choice.{Choice}

@@ -1,3 +1,2 @@
-pub mod Validities
 pub mod Rests
 pub mod Members

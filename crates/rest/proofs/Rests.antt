@@ -13,12 +13,13 @@ use Rattle.units.proofs.Gathering.{gather}
 use Rattle.records.specs.Records.{recordAt}
 use Rattle.records.specs.Fields.{byte}
 use Rattle.run.specs.Layout.{runIn}
-use Rattle.window.specs.declared.ValidRun.{ValidRun}
-use Rattle.window.specs.declared.Four.{Four}
+use Rattle.four.specs.declared.ValidRun.{ValidRun}
+use Rattle.four.specs.declared.Four.{Four}
 use Rattle.window.specs.declared.Window.the-variants.{Runs, Nothing}
-use Rattle.rest.specs.declared.Validity.{Validity}
-use Rattle.rest.specs.declared.Validity.the-variants.{Valid, NotValid}
-use Rattle.rest.specs.Runs.{ofGear, validOf, candidateOf, ahead, restFrom}
+use Rattle.valid.specs.declared.Validity.{Validity}
+use Rattle.valid.specs.declared.Validity.the-variants.{Valid, NotValid}
+use Rattle.valid.specs.Valid.{ofGear, validOf, candidateOf}
+use Rattle.rest.specs.Rest.{ahead, restFrom}
 use Rattle.window.specs.Windows.{firstWindow}
 use Rattle.window.proofs.Parts.{found-in-part, carried}
 

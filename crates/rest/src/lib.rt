@@ -1,69 +1,18 @@
-// Valid runs: which runs count, and the first window of a gear and a run kind in a sheet.
-use level::Side;
+// The first window of a gear and a run kind in a sheet.
+use four::ValidRun;
 use records::Record;
-use run::Run;
 use units::Tenths;
-use window::ValidRun;
+use valid::Validity;
 use window::Window;
 ghost use mathlib.Core.Path.{_≡_};
-ghost use mathlib.Core.Bool.{true};
-ghost use Prim.Native.Nat.{_-_, _≤_, _<_, max};
+ghost use Prim.Native.Nat.{_-_, _≤_};
 ghost use lib.ListN.{take, drop};
-ghost use Rattle.records.specs.Records.{records, recordAt};
-ghost use Rattle.run.specs.Layout.{runGood};
-ghost use Rattle.window.specs.Windows.{firstWindow};
-ghost use Rattle.rest.specs.Runs.{ofGear, validOf, candidateOf, RunsGood, restOf};
 ghost use Rattle.units.specs.Lowest.{lowest};
-
-pub enum Validity {
-    Valid(ValidRun),
-    NotValid,
-}
-
-// The larger of the background before and after.
-pub fn background(before: Tenths, after: Tenths) -> Tenths
-    ensures { λ r. ⌜ r .0 ≡ max (before .0) (after .0) ⌝ }
-{
-    if before.0 < after.0 { after } else { before }
-}
-
-// The validity rule of a run.
-pub fn valid(run: Run, background: Tenths, number: u16) -> Validity
-    ensures { λ r. ⌜ r ≡ validOf run (background .0) number ⌝ }
-{
-    if run.struck {
-        return Validity::NotValid;
-    }
-    let left = level::side_of(run.left_reading(), background);
-    let right = level::side_of(run.right_reading(), background);
-    let Side::Corrected(l) = left else {
-        return Validity::NotValid;
-    };
-    let Side::Corrected(r) = right else {
-        return Validity::NotValid;
-    };
-    Validity::Valid(ValidRun {
-        left: l,
-        right: r,
-        start: run.start_speed,
-        end: run.end_speed,
-        engine: run.engine_speed,
-        number,
-    })
-}
-
-// Record `number` of a sheet as a run of a kind and a gear.
-fn candidate(sheet: &[u8], background: Tenths, kind: u8, gear: u8, number: u16) -> Validity
-    requires { ⌜ (number < records (now sheet)) × (runGood (recordAt (now sheet) number) ≡ true) ⌝ }
-    ensures { λ r. ⌜ r ≡ candidateOf (now (sheet .entry)) (background .0) kind gear number ⌝ }
-{
-    let r = Record::at(sheet, number as usize);
-    if (r[0] == kind) & (r[1] == gear) {
-        valid(run::run_in(r), background, number)
-    } else {
-        Validity::NotValid
-    }
-}
+ghost use Rattle.records.specs.Records.{records};
+ghost use Rattle.run.specs.Runs.{RunsGood};
+ghost use Rattle.valid.specs.Valid.{ofGear};
+ghost use Rattle.window.specs.Windows.{firstWindow};
+ghost use Rattle.rest.specs.Rest.{restOf};
 
 // The first record that names a gear, from record `from` on and before record `last`; else `last`.
 fn next_of(sheet: &[u8], gear: u8, from: usize, last: usize) -> usize
@@ -109,7 +58,7 @@ pub fn window_in(sheet: &[u8], background: Tenths, kind: u8, gear: u8) -> Window
     let mut count: usize = 0;
     let mut i = next_of(sheet, gear, 1, last);
     while i < last {
-        let found = candidate(sheet, background, kind, gear, i as u16);
+        let found = valid::candidate(sheet, background, kind, gear, i as u16);
         if let Validity::Valid(v) = found {
             runs[count] = v;
             count += 1;

@@ -6,10 +6,10 @@ use lib.Dec.{lit≤}
 use lib.ListN.{getD, take}
 use lib.Seq.{getD-take}
 use Rattle.units.specs.declared.Tenths.{Tenths}
-use Rattle.window.specs.declared.Four.{Four}
+use Rattle.four.specs.declared.Four.{Four}
 use Rattle.window.specs.declared.Window.{Window}
 use Rattle.window.specs.declared.Window.the-variants as window
-use Rattle.window.specs.Windows.{levelOf}
+use Rattle.four.specs.Four.{levelOf}
 use Rattle.gears.specs.declared.Gear.{Gear}
 use Rattle.acceleration.specs.Acceleration.{kOf}
 use Rattle.gears.specs.Remaining as remaining
@@ -20,7 +20,7 @@ use Rattle.acceleration.proofs.Accelerations.{k-most}
 use Rattle.state.specs.State.{windowOf}
 use Rattle.weighing.specs.Weighing.{basisOf}
 use Rattle.window.specs.Windows as windows
-use Rattle.window.specs.declared.ValidRun.{ValidRun}
+use Rattle.four.specs.declared.ValidRun.{ValidRun}
 use Rattle.weighing.specs.declared.Reference.{Reference}
 use Rattle.weighing.specs.declared.Chosen.the-variants.{One, Pair}
 use Rattle.demand.specs.Figure as figure

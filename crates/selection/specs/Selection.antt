@@ -2,10 +2,11 @@
 use Prim.Native.Nat.{ℕ, _+_}
 use mathlib.Core.List.{List}
 use lib.ListN.{getD}
-use Rattle.window.specs.declared.Four.{Four}
+use Rattle.four.specs.declared.Four.{Four}
 use Rattle.window.specs.declared.Window.{Window}
 use Rattle.window.specs.declared.Window.the-variants as window
-use Rattle.window.specs.Windows.{nobody, largerSum}
+use Rattle.window.specs.Windows.{nobody}
+use Rattle.four.specs.Four.{largerSum}
 use Rattle.gears.specs.declared.Gear.{Gear}
 use Rattle.rules.specs.declared.Choice.{Choice}
 use Rattle.rules.specs.declared.Choice.the-variants as choice

@@ -1,4 +1,5 @@
 // The chosen gears with their levels, or the refusal of what they lack.
+use four::Four;
 use gears::Gear;
 use records::Record;
 use refusal::Refusal;
@@ -8,12 +9,11 @@ use weighing::Chosen;
 use weighing::One;
 use weighing::Pair;
 use weighing::Reference;
-use window::Four;
 use window::Window;
 ghost use mathlib.Core.Path.{_≡_};
 ghost use Prim.Native.Nat.{_≤_, _<_};
 ghost use lib.ListN.{take};
-ghost use Rattle.rest.specs.Runs.{RunsGood};
+ghost use Rattle.run.specs.Runs.{RunsGood};
 ghost use Rattle.state.specs.State.{windowOf};
 ghost use Rattle.demand.specs.Figure.{pair};
 ghost use Rattle.selection.specs.Selection.{gears, weighedGear, selectOne, selectPair, selectedIn, selectionBy};
@@ -44,8 +44,8 @@ fn select_one(
                 rule,
                 gear: g.number,
                 acceleration,
-                w: window::condition_level(f),
-                c: window::condition_level(h),
+                w: four::condition_level(f),
+                c: four::condition_level(h),
             }))
         }
         Window::Nothing => Selection::Lacking(Refusal::NoConstantSpeed(g.number)),
@@ -72,10 +72,10 @@ fn paired(
         i: i.number,
         j: j.number,
         k,
-        w_i: window::condition_level(fi),
-        w_j: window::condition_level(fj),
-        c_i: window::condition_level(hi),
-        c_j: window::condition_level(hj),
+        w_i: four::condition_level(fi),
+        w_j: four::condition_level(fj),
+        c_i: four::condition_level(hi),
+        c_j: four::condition_level(hj),
     }))
 }
 

@@ -5,7 +5,7 @@ use native.Mathlib.Nat.{le-of-suc-le-suc, not-suc-le-zero}
 use native.Mathlib.Omega.{arith}
 use lib.ListN.{length, getD, length-map, List·getD-map}
 use Rattle.units.proofs.Tests.{chosen}
-use Rattle.window.specs.declared.Four.{Four}
+use Rattle.four.specs.declared.Four.{Four}
 use Rattle.window.specs.declared.Window.{Window}
 use Rattle.window.specs.declared.Window.the-variants as window
 use Rattle.gears.specs.declared.Gear.{Gear}

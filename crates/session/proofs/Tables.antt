@@ -5,7 +5,7 @@ use Prim.Native.Nat.{ℕ, suc, _+_, _-_, _≤_, _<_}
 use native.Mathlib.Omega.{arith}
 use lib.ListN.{length, take, set}
 use Rattle.units.proofs.Gathering.{gather, gathered}
-use Rattle.window.specs.declared.Four.{Four}
+use Rattle.four.specs.declared.Four.{Four}
 use Rattle.gears.specs.declared.Gear.{Gear}
 use Rattle.state.specs.declared.State.{State}
 use Rattle.state.specs.declared.State.the-variants.{Remains}

@@ -6,7 +6,7 @@ use mathlib.Core.Bool.{Bool, true, false}
 use mathlib.Core.List.{List, [], _∷_, map}
 use lib.ListN.{take}
 use Rattle.units.specs.Lowest.{lowest}
-use Rattle.window.specs.declared.Four.{Four}
+use Rattle.four.specs.declared.Four.{Four}
 use Rattle.gears.specs.declared.Gear.{Gear}
 use Rattle.session.specs.declared.Table.{Table}
 use Rattle.state.specs.declared.State.{State}

@@ -1,12 +1,12 @@
 // A session's gears: from a whole sheet to the table of the gears that remain.
+use four::Four;
+use four::ValidRun;
 use gears::Gear;
 use state::State;
 use units::Hundredths;
 use units::Tenths;
-use window::Four;
-use window::ValidRun;
 ghost use Prim.Native.Nat.{_≤_};
-ghost use Rattle.rest.specs.Runs.{RunsGood};
+ghost use Rattle.run.specs.Runs.{RunsGood};
 ghost use Rattle.state.specs.State.{trackOf};
 ghost use Rattle.session.specs.Table.{Tabled};
 

@@ -4,10 +4,10 @@ use Prim.Native.Nat.{ℕ}
 use mathlib.Core.Bool.{Bool, cond, _&&_}
 use mathlib.Core.List.{List}
 use lib.Dec.{leb}
-use Rattle.window.specs.declared.Four.{Four}
+use Rattle.four.specs.declared.Four.{Four}
 use Rattle.window.specs.declared.Window.{Window}
 use Rattle.window.specs.declared.Window.the-variants as window
-use Rattle.rest.specs.Runs.{restOf}
+use Rattle.rest.specs.Rest.{restOf}
 use Rattle.window.specs.Windows.{firstWindow}
 use Rattle.acceleration.specs.Acceleration.{accelerationOf, meanOf}
 use Rattle.presence.specs.Presence.{hasRun}

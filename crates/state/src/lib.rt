@@ -1,14 +1,15 @@
 // What becomes of a gear: from a whole sheet to whether it remains, with its acceleration and its acceleration window.
+use four::Four;
 use gears::Gear;
 use records::Record;
 use units::Hundredths;
 use units::Tenths;
-use window::Four;
 use window::Window;
 ghost use mathlib.Core.Path.{_≡_};
 ghost use Prim.Native.Nat.{_≤_};
-ghost use Rattle.rest.specs.Runs.{RunsGood};
-ghost use Rattle.rest.proofs.Members.{Each, Rising};
+ghost use Rattle.run.specs.Runs.{RunsGood};
+ghost use Rattle.four.specs.Four.{Each};
+ghost use Rattle.valid.specs.Valid.{Rising};
 ghost use Rattle.presence.specs.Presence.{hasRun};
 ghost use Rattle.state.specs.State.{windowOf, within, gearAcceleration, byWindow, stateOf, trackOf};
 

@@ -6,10 +6,11 @@ use lib.Dec.{T, eqb}
 use Rattle.units.specs.Rounding.{rounded}
 use Rattle.units.specs.Lowest.{lowest}
 use Rattle.units.specs.Tests.{allOf}
-use Rattle.window.specs.declared.ValidRun.{ValidRun}
+use Rattle.four.specs.declared.ValidRun.{ValidRun}
 use Rattle.window.specs.declared.Window.{Window}
 use Rattle.window.specs.declared.Window.the-variants.{Runs, Nothing}
-use Rattle.window.specs.Windows.{spanned, fitting, nobody, fourAt, firstPlace, firstWindow, largerSum, levelOf}
+use Rattle.four.specs.Four.{spanned, fitting, largerSum, levelOf}
+use Rattle.window.specs.Windows.{nobody, fourAt, firstPlace, firstWindow}
 
 run : ℕ → ℕ → ℕ → ValidRun
 run n l r = record { left = record { 0 = l }; right = record { 0 = r }; start = 0; end = 0; engine = 0; number = n }

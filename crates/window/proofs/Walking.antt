@@ -29,10 +29,10 @@ use denote.Steps.{heard, facts, only}
 use denote.Struct.Laws as LL
 use denote.Triple.Clauses.{Ended, Lasts, lasts}
 use denote.Triple.Entry.{Args}
-use Rattle.window.specs.declared.ValidRun.{ValidRun}
+use Rattle.four.specs.declared.ValidRun.{ValidRun}
 use Rattle.window.specs.Windows.{nobody}
-use Rattle.window.proofs.ValidRun as S
-use Rattle.window.proofs.ValidRun.Laws as S′
+use Rattle.four.proofs.ValidRun as S
+use Rattle.four.proofs.ValidRun.Laws as S′
 
 -- a run's machine values, and that they are its own
 abbrev pub vals : ValidRun → List Val

@@ -9,7 +9,7 @@ use Rattle.gears.specs.declared.Gear.{Gear}
 use Rattle.rules.specs.declared.Choice.{Choice}
 use Rattle.gears.proofs.Places.{counted}
 use Rattle.rules.proofs.Choices.{Selectable, sound}
-use Rattle.window.specs.declared.Four.{Four}
+use Rattle.four.specs.declared.Four.{Four}
 use Rattle.refusal.specs.declared.Refusal.the-variants.{NotFalling}
 use Rattle.decision.specs.declared.Decision.the-variants.{Refused}
 use Rattle.selection.specs.Sound.{Weighable}

@@ -6,7 +6,7 @@ use native.Mathlib.Omega.{arith}
 use lib.ListN.{length, getD, take, drop, set}
 use lib.Seq.{drop-cons, drop-length}
 use borrow.Author.Needs.{needs}
-use Rattle.window.specs.declared.ValidRun.{ValidRun}
+use Rattle.four.specs.declared.ValidRun.{ValidRun}
 use Rattle.rest.proofs.carry.Statement.{statement}
 use Rattle.rest.proofs.carry.Tie as tie
 

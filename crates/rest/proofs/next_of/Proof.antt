@@ -7,7 +7,7 @@ use Rattle.units.specs.Lowest.{lowest}
 use Rattle.units.proofs.Lowest.{lowest-found, lowest-passed, lowest-past}
 use Rattle.records.specs.Records.{records}
 use Rattle.records.proofs.Shown.{byte-of}
-use Rattle.rest.specs.Runs.{ofGear}
+use Rattle.valid.specs.Valid.{ofGear}
 use Rattle.rest.proofs.next_of.Statement.{statement}
 use Rattle.rest.proofs.next_of.Tie as tie
 

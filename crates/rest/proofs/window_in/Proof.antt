@@ -8,13 +8,13 @@ use lib.ListN.{length, take, length-set}
 use Rattle.rest.proofs.Rests.{Sought, sought-start, sought-valid, sought-other, sought-found, sought-carried, next-range, sought-next, sought-all}
 use Rattle.records.specs.Records.{records}
 use Rattle.window.specs.declared.Window.the-variants.{Runs}
-use Rattle.rest.specs.Runs.{restOf, restFrom}
+use Rattle.rest.specs.Rest.{restOf, restFrom}
 use Rattle.window.specs.Windows.{firstWindow}
 use Rattle.rest.proofs.window_in.Statement.{statement}
 use Rattle.rest.proofs.window_in.Tie as tie
 use Rattle.rest.proofs.window_in.Reads as reads
 use Rattle.rest.proofs.window_in.Lts as lts
-use Rattle.rest.proofs.candidate.Reads as candidate-reads
+use Rattle.valid.proofs.candidate.Reads as candidate-reads
 use Rattle.rest.proofs.carry.Reads as carry-reads
 use Rattle.rest.proofs.next_of.Reads as next-of-reads
 use Rattle.window.proofs.window_of.Reads as window-of-reads

@@ -11,7 +11,7 @@ use Rattle.window.specs.Windows as windows
 use Rattle.selection.specs.Selection.{selectedIn, selectionBy, selectOne, selectPair}
 use Rattle.gears.proofs.Places.{a-taken}
 use Rattle.gears.specs.declared.Gear.{Gear}
-use Rattle.window.specs.declared.Four.{Four}
+use Rattle.four.specs.declared.Four.{Four}
 use Rattle.state.specs.State.{windowOf}
 use Rattle.selection.proofs.Selections.{gear-taken, window-taken}
 use Rattle.selection.specs.declared.Selection.{Selection}

@@ -9,7 +9,7 @@ use mathlib.Core.Logic.{⊎-elim}
 use Prim.Native.Nat.{ℕ, _+_, _-_, _≤_, _<_}
 use lib.ListN.{length, set, length-set}
 use Rattle.units.proofs.Lowest.{Passed, passed-start, passed-next, passed-stop, passed-end}
-use Rattle.window.specs.declared.Four.{Four}
+use Rattle.four.specs.declared.Four.{Four}
 use Rattle.gears.specs.declared.Gear.{Gear}
 use Rattle.state.specs.State.{Track, trackOf, stateOf}
 use Rattle.session.specs.Table.{Entry, lacking, ahead, lowestLacking, gearsOf, windowsOf}

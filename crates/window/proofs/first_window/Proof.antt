@@ -41,16 +41,17 @@ use denote.Triple.Spec.{Meets, tripleOf}
 use denote.Triple.Table.{entered, cited}
 use denote.Triple.Walked.{says, Stays, stay-dropped, walkOf, goes-dropped, Walks, ends-at, walked, walk-meets}
 use denote.Exit.{yes}
-use Rattle.window.specs.declared.ValidRun.{ValidRun}
-use Rattle.window.specs.declared.Four.{Four}
+use Rattle.four.specs.declared.ValidRun.{ValidRun}
+use Rattle.four.specs.declared.Four.{Four}
 use Rattle.window.specs.declared.Window.{Window}
 use Rattle.window.specs.declared.Window.the-variants.{Runs, Nothing}
-use Rattle.window.specs.Windows.{fitting, fourAt, firstWindow}
+use Rattle.four.specs.Four.{fitting}
+use Rattle.window.specs.Windows.{fourAt, firstWindow}
 use Rattle.window.proofs.Searches.{Reached, reached-start, reached-next, found-here, found-nowhere}
 use Rattle.window.proofs.Walking.{word, slice, holds, fails, after, freed, answers}
-use Rattle.window.proofs.ValidRun as S
-use Rattle.window.proofs.Four as F
-use Rattle.window.proofs.Four.Laws as F′
+use Rattle.four.proofs.ValidRun as S
+use Rattle.four.proofs.Four as F
+use Rattle.four.proofs.Four.Laws as F′
 use Rattle.window.proofs.Window as D
 use Rattle.window.proofs.Window.Laws as D′
 use Rattle.window.proofs.places as places
@@ -61,10 +62,10 @@ use Rattle.window.proofs.four_at as four-at
 use Rattle.window.proofs.four_at.Symbol as four-at-def
 use Rattle.window.proofs.four_at.Symbol.{name as #four-at}
 use Rattle.window.proofs.four_at.Met as four-at-thm
-use Rattle.window.proofs.fits as fits
-use Rattle.window.proofs.fits.Symbol as fits-def
-use Rattle.window.proofs.fits.Symbol.{name as #fits}
-use Rattle.window.proofs.fits.Met as fits-thm
+use Rattle.four.proofs.fits as fits
+use Rattle.four.proofs.fits.Symbol as fits-def
+use Rattle.four.proofs.fits.Symbol.{name as #fits}
+use Rattle.four.proofs.fits.Met as fits-thm
 use Rattle.window.proofs.first_window.Key.{name as #first-window}
 use Rattle.window.proofs.first_window as first-window
 use Rattle.window.proofs.first_window.Statement as stated
@@ -260,4 +261,4 @@ first-window-spec 𝓤 H 𝓜 𝓖 𝓡 =
     (first-window-meets 𝓤 H (𝓖 .A) (givenOf 𝓤 H 𝓜 𝓖) (𝓜 .mem) (𝓡 .run) (tablesOf 𝓤 H 𝓜 (tables 𝓤 H 𝓜 𝓡 code.env))
     (cited 𝓤 H (Places 𝓤 H (𝓖 .A) (𝓜 .mem) (𝓡 .run)) 𝓜 𝓡 code.env #places places-def.routine code.calls-window·places (places-thm.met 𝓤 H 𝓜 𝓖 𝓡))
     (cited 𝓤 H (FourAt 𝓤 H (𝓖 .A) (𝓜 .mem) (𝓡 .run)) 𝓜 𝓡 code.env #four-at four-at-def.routine code.calls-window·four-at (four-at-thm.met 𝓤 H 𝓜 𝓖 𝓡))
-    (cited 𝓤 H (Fits 𝓤 H (𝓖 .A) (𝓜 .mem) (𝓡 .run)) 𝓜 𝓡 code.env #fits fits-def.routine code.calls-window·fits (fits-thm.met 𝓤 H 𝓜 𝓖 𝓡)))
+    (cited 𝓤 H (Fits 𝓤 H (𝓖 .A) (𝓜 .mem) (𝓡 .run)) 𝓜 𝓡 code.env #fits fits-def.routine code.calls-four·fits (fits-thm.met 𝓤 H 𝓜 𝓖 𝓡)))

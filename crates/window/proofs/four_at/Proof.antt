@@ -34,13 +34,13 @@ use denote.Triple.Spec.{Meets, tripleOf}
 use denote.Triple.Table.{entered}
 use denote.Triple.Walked.{says, needs, Stays, stay-dropped, walkOf, goes-dropped, Walks, ends-at, walked, walk-meets}
 use denote.Exit.{yes}
-use Rattle.window.specs.declared.ValidRun.{ValidRun}
-use Rattle.window.specs.declared.Four.{Four}
+use Rattle.four.specs.declared.ValidRun.{ValidRun}
+use Rattle.four.specs.declared.Four.{Four}
 use Rattle.window.specs.Windows.{nobody, fourAt}
-use Rattle.window.proofs.ValidRun as S
-use Rattle.window.proofs.ValidRun.Laws as S′
-use Rattle.window.proofs.Four as F
-use Rattle.window.proofs.Four.Laws as F′
+use Rattle.four.proofs.ValidRun as S
+use Rattle.four.proofs.ValidRun.Laws as S′
+use Rattle.four.proofs.Four as F
+use Rattle.four.proofs.Four.Laws as F′
 use Rattle.window.proofs.Walking.{vals, Ok, freed, copies-run}
 use Rattle.window.proofs.four_at.Key.{name as #four-at}
 use Rattle.window.proofs.four_at as four-at

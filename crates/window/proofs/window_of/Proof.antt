@@ -48,12 +48,12 @@ use denote.Triple.Walked.{says, needs, Stays, stay-dropped, walkOf, goes-dropped
 use denote.Exit.{yes}
 use borrow.Table.Owned as B
 use borrow.Rule.Slice.Prefix.{shs-prefix-same}
-use Rattle.window.specs.declared.ValidRun.{ValidRun}
+use Rattle.four.specs.declared.ValidRun.{ValidRun}
 use Rattle.window.specs.declared.Window.{Window}
 use Rattle.window.specs.Windows.{firstWindow}
 use Rattle.window.proofs.Walking.{vals, freed, answers}
-use Rattle.window.proofs.ValidRun as S
-use Rattle.window.proofs.ValidRun.Laws as S′
+use Rattle.four.proofs.ValidRun as S
+use Rattle.four.proofs.ValidRun.Laws as S′
 use Rattle.window.proofs.Window as D
 use Rattle.window.proofs.Window.Laws as D′
 use Rattle.window.proofs.first_window as first-window

@@ -1,15 +1,15 @@
--- `rest::candidate` meets its contract. Assumes nothing.
+-- `valid::candidate` meets its contract. Assumes nothing.
 use borrow.Author.Needs.{needs}
 use mathlib.Core.Path.{_≡_, ap, _∙_}
 use native.Mathlib.Omega.{arith}
 use lib.ListN.{length}
 use Rattle.records.proofs.Shown.{record-long}
 use Rattle.run.proofs.Layouts.{left-no-nan, right-no-nan}
-use Rattle.rest.specs.Runs.{candidateOf, validOf}
+use Rattle.valid.specs.Valid.{candidateOf, validOf}
 use Rattle.run.specs.Layout.{runGood, runIn}
 use Rattle.run.specs.declared.Run.{Run}
-use Rattle.rest.proofs.candidate.Statement.{statement}
-use Rattle.rest.proofs.candidate.Tie as tie
+use Rattle.valid.proofs.candidate.Statement.{statement}
+use Rattle.valid.proofs.candidate.Tie as tie
 
 long : (c : tie.After-at) → length (c .at .result .now) ≡ 32
 long c = ap length (c .at .ensures) ∙ record-long (c .before .before .args .sheet .now) (c .before .before .args .number) (c .before .before .pre .0)

@@ -7,8 +7,8 @@ use Rattle.level.specs.declared.Side.the-variants as side
 use Rattle.level.specs.Correction.{sideOf}
 use Rattle.run.specs.declared.Run.{Run}
 use Rattle.run.specs.Layout.{readingFrom}
-use Rattle.rest.specs.declared.Validity.the-variants.{NotValid}
-use Rattle.rest.specs.Runs.{bothSides, validOf}
+use Rattle.valid.specs.declared.Validity.the-variants.{NotValid}
+use Rattle.valid.specs.Valid.{bothSides, validOf}
 
 module _ (run : Run) (background n : ℕ) where
   pub struck-out : run .struck ≡ true → validOf run background n ≡ NotValid

@@ -1,4 +1,4 @@
--- `window::condition_level` meets its contract. Assumes nothing.
+-- `four::condition_level` meets its contract. Assumes nothing.
 use borrow.Author.Needs.{needs}
 use mathlib.Core.Path.{ap, ap₂, _∙_}
 use Prim.Native.Nat.{ℕ, max}
@@ -6,9 +6,9 @@ use native.Mathlib.Omega.{arith}
 use lib.Dec.{lit<}
 use Rattle.units.specs.Rounding.{rounded}
 use Rattle.units.proofs.Rounding.{rounded-rising}
-use Rattle.window.specs.Windows.{largerSum, levelOf}
-use Rattle.window.proofs.condition_level.Statement.{statement}
-use Rattle.window.proofs.condition_level.Tie as tie
+use Rattle.four.specs.Four.{largerSum, levelOf}
+use Rattle.four.proofs.condition_level.Statement.{statement}
+use Rattle.four.proofs.condition_level.Tie as tie
 
 sum-requires : tie.Need-sum-requires
 sum-requires c κs = search needs

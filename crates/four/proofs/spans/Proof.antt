@@ -1,8 +1,8 @@
--- `window::spans` meets its contract. Assumes nothing.
+-- `four::spans` meets its contract. Assumes nothing.
 use borrow.Author.Needs.{needs}
-use Rattle.window.specs.Windows.{spanned}
-use Rattle.window.proofs.spans.Statement.{statement}
-use Rattle.window.proofs.spans.Tie as tie
+use Rattle.four.specs.Four.{spanned}
+use Rattle.four.proofs.spans.Statement.{statement}
+use Rattle.four.proofs.spans.Tie as tie
 
 most-requires : tie.Need-most-requires
 most-requires c κs = search needs

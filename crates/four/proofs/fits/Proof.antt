@@ -1,10 +1,10 @@
--- `window::fits` meets its contract. Assumes nothing.
+-- `four::fits` meets its contract. Assumes nothing.
 use borrow.Author.Needs.{needs}
 use mathlib.Core.Path.{ap₂}
 use mathlib.Core.Bool.{_&&_}
-use Rattle.window.specs.Windows.{fitting}
-use Rattle.window.proofs.fits.Statement.{statement}
-use Rattle.window.proofs.fits.Tie as tie
+use Rattle.four.specs.Four.{fitting}
+use Rattle.four.proofs.fits.Statement.{statement}
+use Rattle.four.proofs.fits.Tie as tie
 
 spans-requires : tie.Need-spans-requires
 spans-requires c κs = search needs

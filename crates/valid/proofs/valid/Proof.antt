@@ -1,13 +1,13 @@
--- `rest::valid` meets its contract: a run that is not struck goes by its two sides. Assumes nothing.
+-- `valid::valid` meets its contract: a run that is not struck goes by its two sides. Assumes nothing.
 use borrow.Author.Needs.{needs}
 use mathlib.Core.Path.{_≡_, sym, ap, ap₂, _∙_}
 use Rattle.level.specs.declared.Side.the-variants as side
 use Rattle.level.specs.declared.Reading.{Reading}
 use Rattle.level.specs.Correction.{sideOf}
-use Rattle.rest.specs.Runs.{bothSides, validOf}
-use Rattle.rest.proofs.Validities.{struck-out, by-sides, left-out, right-out}
-use Rattle.rest.proofs.valid.Statement.{statement}
-use Rattle.rest.proofs.valid.Tie as tie
+use Rattle.valid.specs.Valid.{bothSides, validOf}
+use Rattle.valid.proofs.Validities.{struck-out, by-sides, left-out, right-out}
+use Rattle.valid.proofs.valid.Statement.{statement}
+use Rattle.valid.proofs.valid.Tie as tie
 
 -- the run goes by the two answers that the code has
 sides : (c : tie.After-side-of2) → let a = c .before .before .before .before .before .args in validOf (a .run) (a .background .0) (a .number) ≡ bothSides (a .run) (a .number) (c .before .before .side-of .result) (c .side-of2 .result)

@@ -1,0 +1,2 @@
+pub mod Validities
+pub mod Counting
