@@ -58,7 +58,7 @@ figure r g =
     let c = exactC r g in
     cond (ltb (r .pmr) 250) w (cond (below w c) c (w ⊖ exactKp (r .«a_urban» .0) (aPrime r g) ⊗ (w ⊖ c)))
 
--- Dk: how far the gears of a pair are apart, in the condition where that is more; 0 for one gear
+-- Dk: how far the levels M of a pair's gears are apart, in the condition where that is more; 0 for one gear
 unfoldable pub Dk : Gears → Frac
 Dk (one rule g) = 0 over 1
 Dk (pair rule i j) = larger (apart (mean (i .w)) (mean (j .w))) (apart (mean (i .c)) (mean (j .c)))

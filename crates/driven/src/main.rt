@@ -3,9 +3,9 @@
 use four::Four;
 use four::ValidRun;
 use gears::Gear;
-use level::Reading;
 use level::Side;
 use libc::STDOUT_FILENO;
+use reading::Reading;
 use rules::Choice;
 use units::Hundredths;
 use units::Tenths;

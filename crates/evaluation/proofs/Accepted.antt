@@ -18,7 +18,8 @@ use Rattle.sheet.proofs.Examinations.{WholeSheet, whole}
 use Rattle.reference.specs.Reference.{aUrban, aRef}
 use Rattle.reference.proofs.References.{a-urban-the}
 use Rattle.gears.specs.Remaining.{firstNotFalling}
-use Rattle.rules.proofs.Choices.{Selectable, sound}
+use Rattle.rules.specs.Rules.{Selectable}
+use Rattle.rules.proofs.Choices.{sound}
 use Rattle.presence.specs.Presence.{anyRun}
 use Rattle.session.specs.Table.{lowestLacking, gearsOf, windowsOf}
 use Rattle.weighing.specs.declared.Reference.{Reference}

@@ -11,7 +11,7 @@ use borrow.Author.Tests.{lt-leb, le-ltb}
 use Rattle.units.specs.Bytes.{number}
 use Rattle.units.specs.declared.Tenths.{Tenths}
 use Rattle.units.proofs.Tests.{neither}
-use Rattle.level.specs.declared.Reading.the-variants as level
+use Rattle.reading.specs.declared.Reading.the-variants as level
 use Rattle.level.specs.declared.Side.the-variants as side
 use Rattle.level.specs.Correction.{sideOf}
 use Rattle.level.proofs.Sides.{side-rising}

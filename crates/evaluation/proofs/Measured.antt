@@ -11,7 +11,7 @@ use Rattle.gears.specs.declared.Gear.{Gear}
 use Rattle.rules.specs.declared.Choice.{Choice}
 use Rattle.rules.specs.declared.Choice.the-variants as choice
 use Rattle.gears.specs.Remaining as remaining
-use Rattle.rules.proofs.Choices.{Selectable}
+use Rattle.rules.specs.Rules.{Selectable}
 use Rattle.state.specs.State.{Track, windowOf, gearAcceleration}
 use Rattle.session.specs.Table.{gearsOf, windowsOf}
 use Rattle.session.proofs.Entries.{Remaining, remaining-at}

@@ -1,5 +1,6 @@
 -- Demand 3 on sheets (document 01, second half of "L_urban"): the chosen gears and runs of an accepted sheet, its figure, how close the
--- reported L_urban is to it, and how it compares with that of a louder sheet. All are definitions of the sheets' bytes.
+-- reported L_urban is to it, and how it compares with that of a sheet in which no chosen run is lower. All are definitions of the sheets'
+-- bytes.
 use mathlib.Core.Path.{_≡_}
 use Prim.Native.Nat.{ℕ, _/_, _%_, _≤_, _<_}
 use mathlib.Core.Bool.{Bool, false, _&&_, _||_}

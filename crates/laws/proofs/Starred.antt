@@ -13,8 +13,9 @@ use Rattle.units.specs.Lowest.{lowest}
 use Rattle.units.specs.Rounding.{rounded}
 use Rattle.units.specs.Tests.{allOf}
 use Rattle.level.specs.Correction.{corrections, correctionOf, correctedSide, sideOf}
-use Rattle.level.specs.Level.{inRange, tenthsOf}
-use Rattle.level.specs.Reading.{readingOf}
+use Rattle.reading.specs.Range.{inRange}
+use Rattle.level.specs.Level.{tenthsOf}
+use Rattle.reading.specs.Reading.{readingOf}
 use Rattle.reference.specs.Reference.{pmrOf, between, aUrban, aRef}
 use Rattle.records.specs.Records.{records, recordAt}
 use Rattle.records.specs.Fields.{zeros}

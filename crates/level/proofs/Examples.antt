@@ -6,11 +6,12 @@ use Prim.Native.Nat.{ℕ}
 use lib.Dec.{T, eqb}
 use lib.Ieee.{binary32, ofBits}
 use Rattle.units.specs.Rounding.{rounded}
-use Rattle.level.specs.declared.Found.{Found}
-use Rattle.level.specs.declared.Found.the-variants.{Good, Broken}
+use Rattle.reading.specs.declared.Found.{Found}
+use Rattle.reading.specs.declared.Found.the-variants.{Good, Broken}
 use Rattle.level.specs.declared.Side.the-variants.{Corrected, NotValid}
-use Rattle.level.specs.Level.{inRange, tenthsOf}
-use Rattle.level.specs.Reading.{readingOf}
+use Rattle.reading.specs.Range.{inRange}
+use Rattle.level.specs.Level.{tenthsOf}
+use Rattle.reading.specs.Reading.{readingOf}
 use Rattle.level.specs.Correction.{corrections, correctionOf, correctedSide}
 
 tenths-of-pattern : ℕ → ℕ

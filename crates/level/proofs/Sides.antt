@@ -8,10 +8,11 @@ use lib.Dec.{T, leb}
 use lib.Ieee.{Float, lt}
 use borrow.Author.Tests.{leb-true, le-leb, lt-leb}
 use Rattle.units.specs.declared.Tenths.{Tenths}
-use Rattle.level.specs.declared.Reading.{Reading}
-use Rattle.level.specs.declared.Reading.the-variants.{Level, Overload, Absent}
+use Rattle.reading.specs.declared.Reading.{Reading}
+use Rattle.reading.specs.declared.Reading.the-variants.{Level, Overload, Absent}
 use Rattle.level.specs.declared.Side.the-variants.{Corrected, NotValid}
-use Rattle.level.specs.Level.{inRange, tenthsOf}
+use Rattle.reading.specs.Range.{inRange}
+use Rattle.level.specs.Level.{tenthsOf}
 use Rattle.level.specs.Correction.{correctionOf, correctedSide, sideOf}
 use Rattle.level.proofs.Rising.{tenths-rising, tenths-range}
 use Rattle.level.proofs.Corrections.{corrected-rising, correction-small}

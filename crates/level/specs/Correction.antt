@@ -4,11 +4,12 @@ use mathlib.Core.Bool.{cond}
 use mathlib.Core.List.{List, [], _∷_}
 use lib.Dec.{leb}
 use lib.ListN.{getD}
-use Rattle.level.specs.declared.Reading.{Reading}
-use Rattle.level.specs.declared.Reading.the-variants.{Level, Overload, Absent}
+use Rattle.reading.specs.declared.Reading.{Reading}
+use Rattle.reading.specs.declared.Reading.the-variants.{Level, Overload, Absent}
 use Rattle.level.specs.declared.Side.{Side}
 use Rattle.level.specs.declared.Side.the-variants.{Corrected, NotValid}
-use Rattle.level.specs.Level.{inRange, tenthsOf}
+use Rattle.reading.specs.Range.{inRange}
+use Rattle.level.specs.Level.{tenthsOf}
 
 -- document 000's corrections for a difference of 10, 11, 12, 13, 14 and 15 dB
 unfoldable pub corrections : List ℕ

@@ -1,18 +1,10 @@
--- A level: the float of a reading, which floats are levels, and a level in tenths.
--- A finite float `fin s m e` has the exact value m × 2^e, the fraction m * up e / down e, and is negative where s is true.
+-- A level in tenths. A finite float `fin s m e` has the exact value m × 2^e, the fraction m * up e / down e, and is negative where s is true.
 use Prim.Native.Nat.{ℕ, _*_}
-use mathlib.Core.Bool.{Bool, false, not, _&&_}
-use lib.Dec.{leb}
 use lib.Ieee.{Float, nan, inf, fin, up, down}
 use Rattle.units.specs.Rounding.{rounded}
 
--- "The sheet": a level is finite and from 20.0 to 140.0, both ends in, by its exact value
-unfoldable pub inRange : Float → Bool
-inRange nan = false
-inRange (inf s) = false
-inRange (fin s m e) = not s && leb (20 * down e) (m * up e) && leb (m * up e) (140 * down e)
-
--- "From levels to windows", step 1: the exact value of a level rounded to a tenth, as a number of tenths. (What is no level has none: 0.)
+-- "From levels to windows", step 1: the exact value of a level rounded to a tenth, as a number of tenths. (A NaN and an infinity have
+-- none: 0. Whether a float is a level is asked first.)
 unfoldable pub tenthsOf : Float → ℕ
 tenthsOf nan = 0
 tenthsOf (inf s) = 0

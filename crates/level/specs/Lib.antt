@@ -1,3 +1,2 @@
 pub mod Level
-pub mod Reading
 pub mod Correction

@@ -20,9 +20,9 @@ apart x y = (x - y) + (y - x)
 unfoldable pub near : ℕ → ℕ → Bool
 near R x = leb (20 * apart x R) R && leb x ceiling
 
--- such a gear k lies nearer to R than the gear at p
+-- such a gear, at place q, lies nearer to R than the gear at place p
 unfoldable pub nearer : ℕ → List Gear → ℕ → ℕ → Bool
-nearer R gears p k = near R (a gears k) && ltb (apart (a gears k) R) (apart (a gears p) R)
+nearer R gears p q = near R (a gears q) && ltb (apart (a gears q) R) (apart (a gears p) R)
 
 -- Rule 2: the lowest place with such a gear that no other is nearer than: the nearest, the lower number on a tie.
 unfoldable pub nearest : ℕ → List Gear → ℕ

@@ -7,7 +7,7 @@ ghost use lib.Dec.{ltb};
 ghost use lib.ListN.{take};
 ghost use Rattle.nearest.specs.Nearest.{apart, near, nearest};
 
-// 3.00 m/s², above which a gear is not chosen by itself.
+// 3.00 m/s²: rule 2 takes no gear above it, rule 3 no pair whose first is above it, and rule 4 the first gear below it.
 pub const CEILING: u16 = 300;
 
 // |x − y|

@@ -15,7 +15,7 @@ some test n (suc count) = test n || some test (n + 1) count
 unfoldable pub accelerates : List ℕ → ℕ → Bool
 accelerates s n = eqb (byte (recordAt s n) 0) 2
 
--- row 7: there is an acceleration run
+-- there is an acceleration run; row 7 holds where there is none
 unfoldable pub anyRun : List ℕ → Bool
 anyRun s = some (accelerates s) 1 (records s - 2)
 

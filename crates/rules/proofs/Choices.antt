@@ -15,7 +15,7 @@ use Rattle.rules.specs.declared.Choice.{Choice}
 use Rattle.rules.specs.declared.Choice.the-variants.{One, Pair, Nothing}
 use Rattle.gears.specs.Remaining.{a}
 use Rattle.nearest.specs.Nearest.{apart, near, nearest}
-use Rattle.rules.specs.Rules.{jOf, firstBelow, oneAt, acrossOf, choiceOf}
+use Rattle.rules.specs.Rules.{Paired, Selectable, jOf, firstBelow, oneAt, acrossOf, choiceOf}
 use Rattle.rules.proofs.Last.{Last, last}
 use Rattle.nearest.proofs.Nearest.{none-near}
 
@@ -67,18 +67,6 @@ module _ (R u : ℕ) (gears : List Gear) where
 near-301 : near 301 300 ≡ true
 unfolding near apart
 near-301 = refl
-
--- of a pair, a(j) < R ≤ a(i)
-pub record Paired (R : ℕ) (gears : List Gear) (i : ℕ) : Type 0 where
-  pub inside : i + 1 < length gears
-  pub above : R ≤ a gears i
-  pub below : a gears (i + 1) < R
-
--- a choice is of gears that remain, and of a pair the accelerations lie on both sides of R
-abbrev pub Selectable : ℕ → List Gear → Choice → Type 0
-Selectable R gears (One r p) = p < length gears
-Selectable R gears (Pair r i) = Paired R gears i
-Selectable R gears Nothing = Unit {0}
 
 module _ (R u : ℕ) (gears : List Gear) where
   j : Last (λ p. leb R (a gears p)) (length gears) (jOf R gears)

@@ -1,6 +1,6 @@
 -- The gear rules (document 01, "Gears"), over any list of remaining gears and any R (a_ref) and u (a_urban). A gear is named by its place in
 -- the list.
-use Prim.Native.Nat.{ℕ, zero, suc, _-_}
+use Prim.Native.Nat.{ℕ, zero, suc, _+_, _-_, _≤_, _<_}
 use mathlib.Core.Bool.{Bool, true, false, cond, _||_}
 use mathlib.Core.List.{List}
 use lib.Dec.{leb, ltb, eqb}
@@ -43,3 +43,17 @@ choiceOf R u gears =
     cond (eqb (length gears) 0) Nothing
     (cond (eqb (length gears) 1) (One 1 0)
     (cond (ltb (nearest R gears) (length gears)) (One 2 (nearest R gears)) (acrossOf u gears (jOf R gears))))
+
+-- ---- what holds of a choice
+
+-- of a pair, a(j) < R ≤ a(i)
+pub record Paired (R : ℕ) (gears : List Gear) (i : ℕ) : Type 0 where
+  pub inside : i + 1 < length gears
+  pub above : R ≤ a gears i
+  pub below : a gears (i + 1) < R
+
+-- a choice is of gears that remain, and of a pair the accelerations lie on both sides of R
+abbrev pub Selectable : ℕ → List Gear → Choice → Type 0
+Selectable R gears (One r p) = p < length gears
+Selectable R gears (Pair r i) = Paired R gears i
+Selectable R gears Nothing = Unit {0}

@@ -10,13 +10,13 @@ use lib.Ieee.{binary32, ofBits, nanBits}
 use borrow.Author.Tests.{eq-eqb}
 use Rattle.units.specs.Bytes.{number}
 use Rattle.units.proofs.Tests.{each}
-use Rattle.level.specs.declared.Reading.{Reading}
-use Rattle.level.specs.declared.Reading.the-variants.{Level, Overload, Absent}
-use Rattle.level.specs.declared.Found.{Found}
-use Rattle.level.specs.declared.Found.the-variants.{Good, Broken}
-use Rattle.level.specs.Reading.{readingOf}
-use Rattle.level.proofs.Readings.{View, is-absent, is-level, is-overload, is-broken, view, no-nan, in-range}
-use Rattle.level.specs.Level.{inRange}
+use Rattle.reading.specs.declared.Reading.{Reading}
+use Rattle.reading.specs.declared.Reading.the-variants.{Level, Overload, Absent}
+use Rattle.reading.specs.declared.Found.{Found}
+use Rattle.reading.specs.declared.Found.the-variants.{Good, Broken}
+use Rattle.reading.specs.Reading.{readingOf}
+use Rattle.reading.proofs.Readings.{View, is-absent, is-level, is-overload, is-broken, view, no-nan, in-range}
+use Rattle.reading.specs.Range.{inRange}
 use Rattle.records.proofs.Layouts.{inside}
 use Rattle.records.specs.Fields.{byte, word}
 use Rattle.run.specs.Layout.{readable, readingFrom, runTests, runGood}

@@ -7,11 +7,11 @@ use lib.Ieee.{Float, binary32, ofBits}
 use lib.ListN.{length}
 use Rattle.units.specs.Bytes.{number}
 use Rattle.units.specs.Tests.{allOf}
-use Rattle.level.specs.declared.Reading.{Reading}
-use Rattle.level.specs.declared.Reading.the-variants.{Level, Overload, Absent}
-use Rattle.level.specs.declared.Found.{Found}
-use Rattle.level.specs.declared.Found.the-variants.{Good, Broken}
-use Rattle.level.specs.Reading.{readingOf}
+use Rattle.reading.specs.declared.Reading.{Reading}
+use Rattle.reading.specs.declared.Reading.the-variants.{Level, Overload, Absent}
+use Rattle.reading.specs.declared.Found.{Found}
+use Rattle.reading.specs.declared.Found.the-variants.{Good, Broken}
+use Rattle.reading.specs.Reading.{readingOf}
 use Rattle.records.specs.Fields.{byte, word, within, zeros}
 use Rattle.run.specs.declared.Run.{Run}
 use Rattle.run.specs.declared.RunRecord.{RunRecord}

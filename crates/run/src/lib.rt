@@ -1,6 +1,6 @@
 // A run record: its layout, and the run that stands in it.
-use level::Found;
-use level::Reading;
+use reading::Found;
+use reading::Reading;
 use records::Record;
 ghost use mathlib.Core.Path.{_≡_};
 ghost use Prim.Native.Nat.{_+_, _≤_};
@@ -9,7 +9,7 @@ ghost use lib.Ieee.{binary32, nanBits};
 ghost use mathlib.Core.Bool.{false, not, _||_};
 ghost use lib.Dec.{leb, eqb};
 ghost use Rattle.units.specs.Bytes.{number};
-ghost use Rattle.level.specs.Reading.{readingOf};
+ghost use Rattle.reading.specs.Reading.{readingOf};
 ghost use Rattle.records.specs.Fields.{byte, word};
 ghost use Rattle.run.specs.Layout.{readable, runGood, runIn, runOf, readingFrom};
 
@@ -41,7 +41,7 @@ fn readable_at(kind: u8, r: &[u8], at: usize) -> bool
     requires { ⌜ at + 4 ≤ length (now r) ⌝ }
     ensures { λ ok. ⌜ ok ≡ readable (readingOf kind (number (now (r .entry)) at 4)) ⌝ }
 {
-    match level::reading_at(kind, r, at) {
+    match reading::reading_at(kind, r, at) {
         Found::Good(_) => true,
         Found::Broken => false,
     }

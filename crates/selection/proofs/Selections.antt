@@ -15,7 +15,7 @@ use Rattle.acceleration.specs.Acceleration.{kOf}
 use Rattle.gears.specs.Remaining as remaining
 use Rattle.rules.specs.declared.Choice.{Choice}
 use Rattle.rules.specs.declared.Choice.the-variants as choice
-use Rattle.rules.proofs.Choices.{Selectable}
+use Rattle.rules.specs.Rules.{Selectable}
 use Rattle.acceleration.proofs.Accelerations.{k-most}
 use Rattle.state.specs.State.{windowOf}
 use Rattle.weighing.specs.Weighing.{basisOf}

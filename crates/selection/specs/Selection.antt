@@ -43,7 +43,7 @@ unfoldable pub selectOne : ℕ → Gear → Four → Window → Selected
 selectOne rule g f window.Nothing = lacking (refusal.NoConstantSpeed (g .number))
 selectOne rule g f (window.Runs h) = gears (figure.one rule (weighedGear g f h))
 
--- gear i stands below gear j, so its window is asked first
+-- gear i has the lower number, so its window is asked first
 unfoldable pub selectPair : ℕ → Gear → Four → Window → Gear → Four → Window → Selected
 selectPair rule i f window.Nothing j g w = lacking (refusal.NoConstantSpeed (i .number))
 selectPair rule i f (window.Runs h) j g window.Nothing = lacking (refusal.NoConstantSpeed (j .number))

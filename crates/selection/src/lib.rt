@@ -17,7 +17,7 @@ ghost use Rattle.run.specs.Runs.{RunsGood};
 ghost use Rattle.state.specs.State.{windowOf};
 ghost use Rattle.demand.specs.Figure.{pair};
 ghost use Rattle.selection.specs.Selection.{gears, weighedGear, selectOne, selectPair, selectedIn, selectionBy};
-ghost use Rattle.rules.proofs.Choices.{Selectable};
+ghost use Rattle.rules.specs.Rules.{Selectable};
 
 // The chosen gears with their levels, or the refusal of what is lacking.
 pub enum Selection {

@@ -20,7 +20,7 @@ lacking Dropped = false
 lacking NoWindow = true
 lacking NoRun = false
 
--- Row 7: the lowest gear without a window, as a place: gear p + 1 stands at place p. (16, if no gear lacks one.)
+-- Row 7: the lowest gear with an acceleration run and no window, less one: p for gear p + 1. (16, if there is none.)
 unfoldable pub lowestLacking : Track → ℕ
 lowestLacking t = lowest (λ p. lacking (stateOf t (p + 1))) 16 0
 
@@ -49,7 +49,7 @@ gearsOf t = map (λ (e : Entry). e .gear) (remaining t)
 unfoldable pub windowsOf : Track → List Four
 windowsOf t = map (λ (e : Entry). e .window) (remaining t)
 
--- what a table says of a session: the place of the lowest gear without a window; and, if no gear lacks one, the gears that remain and their
+-- what a table says of a session: the lowest gear that lacks a window, less one; and, if no gear lacks one, the gears that remain and their
 -- acceleration windows
 pub record Tabled (t : Track) (r : Table) : Type 0 where
   pub lacks : r .lacking ≡ lowestLacking t

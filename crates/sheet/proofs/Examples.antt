@@ -10,8 +10,8 @@ use lib.Seq.{sets}
 use Rattle.units.specs.Bytes.{number}
 use Rattle.units.specs.Lowest.{lowest}
 use Rattle.units.specs.Tests.{allOf}
-use Rattle.level.specs.Level.{inRange}
-use Rattle.level.specs.Reading.{readingOf}
+use Rattle.reading.specs.Range.{inRange}
+use Rattle.reading.specs.Reading.{readingOf}
 use Rattle.sheet.specs.declared.Examination.{Examination}
 use Rattle.sheet.specs.declared.Examination.the-variants.{Whole, WrongSize, NoVehicle, NoClosing, BrokenRecord}
 use Rattle.records.specs.Records.{records, recordAt}

@@ -8,7 +8,8 @@ use lib.ListN.{length, take}
 use Rattle.gears.specs.declared.Gear.{Gear}
 use Rattle.rules.specs.declared.Choice.{Choice}
 use Rattle.gears.proofs.Places.{counted}
-use Rattle.rules.proofs.Choices.{Selectable, sound}
+use Rattle.rules.specs.Rules.{Selectable}
+use Rattle.rules.proofs.Choices.{sound}
 use Rattle.four.specs.declared.Four.{Four}
 use Rattle.refusal.specs.declared.Refusal.the-variants.{NotFalling}
 use Rattle.decision.specs.declared.Decision.the-variants.{Refused}

@@ -2,7 +2,7 @@
 use borrow.Author.Needs.{needs}
 use mathlib.Core.Path.{_≡_, sym, ap, ap₂, _∙_}
 use Rattle.level.specs.declared.Side.the-variants as side
-use Rattle.level.specs.declared.Reading.{Reading}
+use Rattle.reading.specs.declared.Reading.{Reading}
 use Rattle.level.specs.Correction.{sideOf}
 use Rattle.valid.specs.Valid.{bothSides, validOf}
 use Rattle.valid.proofs.Validities.{struck-out, by-sides, left-out, right-out}

@@ -3,12 +3,12 @@ use Prim.Native.Nat.{ℕ}
 use mathlib.Core.Bool.{cond}
 use lib.Dec.{eqb}
 use lib.Ieee.{Float, binary32, ofBits}
-use Rattle.level.specs.declared.Reading.the-variants.{Level, Overload, Absent}
-use Rattle.level.specs.declared.Found.{Found}
-use Rattle.level.specs.declared.Found.the-variants.{Good, Broken}
-use Rattle.level.specs.declared.Pattern.{Pattern}
-use Rattle.level.specs.declared.Pattern.the-variants.{InRange, Outside}
-use Rattle.level.specs.Level.{inRange}
+use Rattle.reading.specs.declared.Reading.the-variants.{Level, Overload, Absent}
+use Rattle.reading.specs.declared.Found.{Found}
+use Rattle.reading.specs.declared.Found.the-variants.{Good, Broken}
+use Rattle.reading.specs.declared.Pattern.{Pattern}
+use Rattle.reading.specs.declared.Pattern.the-variants.{InRange, Outside}
+use Rattle.reading.specs.Range.{inRange}
 
 -- Kind 0 is absent, and its four bytes are zero. Kinds 1 and 2 are a level and an overload with the last level shown, each a level in
 -- range. There is no other kind.

@@ -8,13 +8,13 @@ use lib.Ieee.Bits.{nanBits-is}
 use lib.Dec.{eqb}
 use borrow.Author.Tests.{eq-eqb, ne-eqb, eqb-true}
 use Rattle.units.proofs.Tests.{chosen}
-use Rattle.level.specs.declared.Reading.{Reading}
-use Rattle.level.specs.declared.Reading.the-variants.{Level, Overload, Absent}
-use Rattle.level.specs.declared.Found.{Found}
-use Rattle.level.specs.declared.Found.the-variants.{Good, Broken}
-use Rattle.level.specs.declared.Pattern.the-variants.{InRange, Outside}
-use Rattle.level.specs.Level.{inRange}
-use Rattle.level.specs.Reading.{readingOf, levelOf}
+use Rattle.reading.specs.declared.Reading.{Reading}
+use Rattle.reading.specs.declared.Reading.the-variants.{Level, Overload, Absent}
+use Rattle.reading.specs.declared.Found.{Found}
+use Rattle.reading.specs.declared.Found.the-variants.{Good, Broken}
+use Rattle.reading.specs.declared.Pattern.the-variants.{InRange, Outside}
+use Rattle.reading.specs.Range.{inRange}
+use Rattle.reading.specs.Reading.{readingOf, levelOf}
 
 -- ---- what the answer for a pattern says of its float
 

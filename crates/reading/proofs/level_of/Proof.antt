@@ -1,10 +1,10 @@
--- `level::level_of` meets its contract: the pattern of a NaN is no level's, and of any other `in_range` decides. Assumes nothing.
+-- `reading::level_of` meets its contract: the pattern of a NaN is no level's, and of any other `in_range` decides. Assumes nothing.
 use borrow.Author.Needs.{needs}
 use mathlib.Core.Path.{sym, _∙_}
-use Rattle.level.specs.Reading.{levelOf}
-use Rattle.level.proofs.Range.{nan-out, no-nan}
-use Rattle.level.proofs.level_of.Statement.{statement}
-use Rattle.level.proofs.level_of.Tie as tie
+use Rattle.reading.specs.Reading.{levelOf}
+use Rattle.reading.proofs.Range.{nan-out, no-nan}
+use Rattle.reading.proofs.level_of.Statement.{statement}
+use Rattle.reading.proofs.level_of.Tie as tie
 
 returns : tie.Need-returns
 unfolding levelOf

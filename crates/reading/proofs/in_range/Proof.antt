@@ -1,8 +1,8 @@
--- `level::in_range` meets its contract, by what the two tests say of the range. Assumes nothing.
+-- `reading::in_range` meets its contract, by what the two tests say of the range. Assumes nothing.
 use mathlib.Core.Path.{sym}
-use Rattle.level.proofs.Range.{low-out, high-decides}
-use Rattle.level.proofs.in_range.Statement.{statement}
-use Rattle.level.proofs.in_range.Tie as tie
+use Rattle.reading.proofs.Range.{low-out, high-decides}
+use Rattle.reading.proofs.in_range.Statement.{statement}
+use Rattle.reading.proofs.in_range.Tie as tie
 
 returns : tie.Need-returns
 returns c = high-decides (c .before .args .x) (c .if1 .taken)

@@ -11,7 +11,7 @@ use lib.Ieee.{Float, nan, inf, fin, binary32, up, down, lt, eq, le, isNan, ofBit
 use lib.Ieee.Fits.{down-pos}
 use lib.Ieee.Bits.{nanBits-is, nanBits-above}
 use borrow.Author.Tests.{ltb-false, leb-true, leb-false, lt-ltb, le-ltb, eq-eqb, ne-eqb}
-use Rattle.level.specs.Level.{inRange}
+use Rattle.reading.specs.Range.{inRange}
 
 abbrev twenty : Float
 twenty = ofBits binary32 0x41a0_0000

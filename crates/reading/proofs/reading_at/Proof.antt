@@ -1,15 +1,15 @@
--- `level::reading_at` meets its contract, kind by kind. Assumes nothing.
+-- `reading::reading_at` meets its contract, kind by kind. Assumes nothing.
 use borrow.Author.Needs.{needs}
 use mathlib.Core.Path.{sym, ap, _∙_, _≡_}
 use Prim.Native.Nat.{ℕ}
 use native.Mathlib.Omega.{arith}
 use lib.Ieee.{binary32, ofBits}
 use denote.Ref.{now}
-use Rattle.level.specs.Reading.{levelOf}
+use Rattle.reading.specs.Reading.{levelOf}
 use Rattle.units.specs.Bytes.{number}
-use Rattle.level.proofs.Readings.{absent, absent-broken, unknown-broken, level, overload, level-broken}
-use Rattle.level.proofs.reading_at.Statement.{statement}
-use Rattle.level.proofs.reading_at.Tie as tie
+use Rattle.reading.proofs.Readings.{absent, absent-broken, unknown-broken, level, overload, level-broken}
+use Rattle.reading.proofs.reading_at.Statement.{statement}
+use Rattle.reading.proofs.reading_at.Tie as tie
 
 -- what was found is what the pattern of the four bytes is
 found : (c : tie.After-level-of) → let s = c .before .before .before .before .before in c .level-of .result ≡ levelOf (ofBits binary32 (number (now (s .args .s)) (s .args .at) 4))
