@@ -1,8 +1,8 @@
 -- An answer as the numbers that a caller in C or Rust gets. Assumes nothing.
 use Prim.Native.Nat.{ℕ}
 use Rattle.refusal.specs.Refusal.{numberOf, placeOf}
-use Rattle.evaluation.specs.declared.Answer.{Answer}
-use Rattle.evaluation.specs.declared.Answer.the-variants.{Accepted, Refused}
+use Rattle.refusal.specs.declared.Answer.{Answer}
+use Rattle.refusal.specs.declared.Answer.the-variants.{Accepted, Refused}
 
 -- 0 on success, else the number of the refusal
 abbrev pub codeOf : Answer → ℕ

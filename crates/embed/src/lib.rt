@@ -1,5 +1,5 @@
 // The evaluation for programs in C and Rust. A slice is a pointer and a length, and an answer is numbers.
-use evaluation::Answer;
+use refusal::Answer;
 ghost use mathlib.Core.Path.{_≡_};
 ghost use mathlib.Core.Bool.{cond};
 ghost use mathlib.Core.List.{[]};

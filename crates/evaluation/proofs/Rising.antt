@@ -26,7 +26,7 @@ use Rattle.demand.proofs.Rising.{rising}
 use Rattle.result.proofs.Results.{at-ten}
 use Rattle.decision.specs.declared.Decision.{Decision}
 use Rattle.decision.specs.declared.Decision.the-variants as decision
-use Rattle.evaluation.specs.declared.Answer.the-variants as answer
+use Rattle.refusal.specs.declared.Answer.the-variants as answer
 use Rattle.refusal.specs.declared.Refusal.the-variants as refusal
 use Rattle.evaluation.specs.Answer.{answerBy, answerOf, bufferBy, bufferOf}
 use Rattle.decision.specs.Decision.{trackIn, referenceAt, decisionOf, sheetVehicle, sheetTrack}

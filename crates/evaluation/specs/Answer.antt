@@ -1,17 +1,16 @@
 -- What the caller gets: the answer, and every byte of the buffer (document 01, "Refusals and what remains").
 use Prim.Native.Nat.{ℕ}
 use mathlib.Core.Bool.{cond}
-use mathlib.Core.List.{List, [], _∷_, _++_}
+use mathlib.Core.List.{List, _++_}
 use lib.Dec.{ltb}
 use lib.ListN.{length, drop}
-use Rattle.urban.specs.declared.Outcome.{Outcome}
-use Rattle.result.specs.Result.{flag, resultBytes}
+use Rattle.result.specs.Result.{resultBytes}
 use Rattle.refusal.specs.declared.Refusal.{Refusal}
 use Rattle.refusal.specs.declared.Refusal.the-variants.{ShortBuffer}
 use Rattle.decision.specs.declared.Decision.{Decision}
 use Rattle.decision.specs.declared.Decision.the-variants as decision
-use Rattle.evaluation.specs.declared.Answer.{Answer}
-use Rattle.evaluation.specs.declared.Answer.the-variants.{Accepted, Refused}
+use Rattle.refusal.specs.declared.Answer.{Answer}
+use Rattle.refusal.specs.declared.Answer.the-variants.{Accepted, Refused}
 use Rattle.decision.specs.Decision.{decisionOf}
 
 unfoldable pub answerBy : Decision → Answer
@@ -29,11 +28,3 @@ bufferBy (decision.Result o) b = resultBytes o ++ drop 32 b
 
 unfoldable pub bufferOf : List ℕ → List ℕ → List ℕ
 bufferOf s b = cond (ltb (length b) 32) b (bufferBy (decisionOf s) b)
-
--- the result's 13 fields as they are printed: in record order, pass last
-unfoldable pub fieldsOf : Outcome → List ℕ
-fieldsOf o =
-    o .rule ∷ o .i ∷ o .j ∷ o .k ∷ o .kp
-    ∷ o .w .0 ∷ o .c .0 ∷ o .«l_urban»
-    ∷ o .«a_urban» .0 ∷ o .«a_ref» .0 ∷ o .pmr ∷ o .a .0
-    ∷ flag (o .pass) ∷ []

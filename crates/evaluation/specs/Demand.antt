@@ -19,7 +19,7 @@ use Rattle.weighing.specs.declared.Reference.{Reference}
 use Rattle.demand.specs.Fractions.{Frac, _over_, apart, _≼_}
 use Rattle.demand.specs.Figure.{figure, one, pair}
 use Rattle.demand.specs.Demand.{bound}
-use Rattle.evaluation.specs.declared.Answer.the-variants.{Accepted}
+use Rattle.refusal.specs.declared.Answer.the-variants.{Accepted}
 use Rattle.evaluation.specs.Answer.{answerOf, bufferOf}
 use Rattle.decision.specs.Decision.{referenceAt, sheetTrack, pmrIn, choiceIn}
 use Rattle.selection.specs.Selection.{Selected, lacking, gears, selectedIn}

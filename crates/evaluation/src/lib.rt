@@ -1,16 +1,12 @@
 // The evaluation of a sheet: any byte string to a result, or to one numbered refusal.
 use decision::Decision;
+use refusal::Answer;
 use refusal::Refusal;
 ghost use mathlib.Core.Path.{_≡_};
 ghost use lib.ListN.{length};
 ghost use Rattle.evaluation.specs.Answer.{answerOf, bufferOf};
 ghost use Rattle.evaluation.specs.Demand.{CloseTo, RisesFrom};
 ghost use Rattle.units.specs.Bytes.{number};
-
-pub enum Answer {
-    Accepted,
-    Refused(Refusal),
-}
 
 // The evaluation of a sheet: on success the result stands in the first 32 bytes of `result`; on a refusal no byte changes.
 pub fn evaluate(sheet: &[u8], result: &mut [u8]) -> Answer

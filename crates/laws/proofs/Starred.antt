@@ -38,7 +38,7 @@ use Rattle.urban.specs.Urban.{partPower, lUrbanOf, outcomeOf}
 use Rattle.weighing.specs.Weighing.{weighedLevel, basisOf}
 use Rattle.decision.specs.Decision.{trackIn, referenceAt, finishBy, decideGears, decideWhole, decideBy, decisionOf, sheetVehicle, sheetTrack, pmrIn, choiceIn}
 use Rattle.selection.specs.Selection.{noFour, gearAt, windowAt, weighedGear, selectOne, selectPair, selectedIn, selectionBy}
-use Rattle.evaluation.specs.Answer.{fieldsOf}
+use Rattle.result.specs.Result.{fieldsOf}
 use Rattle.evaluation.specs.Demand.{chosenIn, runsOf, chosenRunsBy, chosenRuns}
 use Rattle.laws.specs.Starred.{Example, gives, shouldGive, Holds, starred, workedSheet}
 

@@ -11,8 +11,8 @@ use lib.ListN.{length}
 use Rattle.refusal.specs.declared.Refusal.{Refusal}
 use Rattle.decision.specs.declared.Decision.{Decision}
 use Rattle.decision.specs.declared.Decision.the-variants as decision
-use Rattle.evaluation.specs.declared.Answer.{Answer}
-use Rattle.evaluation.specs.declared.Answer.the-variants as answer
+use Rattle.refusal.specs.declared.Answer.{Answer}
+use Rattle.refusal.specs.declared.Answer.the-variants as answer
 use Rattle.refusal.specs.declared.Refusal.the-variants as refusal
 use Rattle.evaluation.specs.Answer.{answerBy, answerOf, bufferBy, bufferOf}
 use Rattle.decision.specs.Decision.{decisionOf}

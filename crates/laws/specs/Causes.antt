@@ -15,8 +15,8 @@ use Rattle.gears.specs.Remaining.{firstNotFalling}
 use Rattle.state.specs.State.{Track, windowOf}
 use Rattle.session.specs.Table.{lowestLacking, gearsOf}
 use Rattle.presence.specs.Presence.{anyRun}
-use Rattle.evaluation.specs.declared.Answer.{Answer}
-use Rattle.evaluation.specs.declared.Answer.the-variants.{Accepted, Refused}
+use Rattle.refusal.specs.declared.Answer.{Answer}
+use Rattle.refusal.specs.declared.Answer.the-variants.{Accepted, Refused}
 use Rattle.refusal.specs.Refusal.{numberOf}
 use Rattle.selection.specs.Selection.{gearAt}
 use Rattle.decision.specs.Decision.{sheetTrack, pmrIn, choiceIn}

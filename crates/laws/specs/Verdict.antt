@@ -5,7 +5,7 @@ use mathlib.Core.List.{List}
 use Rattle.urban.specs.declared.Outcome.{Outcome}
 use Rattle.refusal.specs.declared.Refusal.{Refusal}
 use Rattle.decision.specs.declared.Decision.the-variants as decision
-use Rattle.evaluation.specs.declared.Answer.the-variants as answer
+use Rattle.refusal.specs.declared.Answer.the-variants as answer
 use Rattle.evaluation.specs.Answer.{answerOf}
 use Rattle.decision.specs.Decision.{decisionOf}
 

@@ -2,11 +2,10 @@
 use Prim.Native.Nat.{ℕ}
 use mathlib.Core.List.{List, [], _∷_, _++_}
 use Rattle.text.specs.Text.{spaced}
-use Rattle.result.specs.Result.{outcomeIn}
+use Rattle.result.specs.Result.{outcomeIn, fieldsOf}
 use Rattle.refusal.specs.Refusal.{numberOf, placeOf}
-use Rattle.evaluation.specs.Answer.{fieldsOf}
-use Rattle.evaluation.specs.declared.Answer.{Answer}
-use Rattle.evaluation.specs.declared.Answer.the-variants.{Accepted, Refused}
+use Rattle.refusal.specs.declared.Answer.{Answer}
+use Rattle.refusal.specs.declared.Answer.the-variants.{Accepted, Refused}
 
 -- "OK"
 unfoldable pub acceptedWord : List ℕ

@@ -1,14 +1,13 @@
 // The line that the evaluation program prints, laid out on a lent buffer.
-use evaluation::Answer;
+use refusal::Answer;
 use refusal::Refusal;
 use urban::Outcome;
 ghost use mathlib.Core.Path.{_≡_};
 ghost use mathlib.Core.List.{[], _∷_};
 ghost use Prim.Native.Nat.{_+_, _≤_};
 ghost use lib.ListN.{length, take};
-ghost use Rattle.result.specs.Result.{flag};
+ghost use Rattle.result.specs.Result.{flag, fieldsOf};
 ghost use Rattle.refusal.specs.Refusal.{numberOf, placeOf};
-ghost use Rattle.evaluation.specs.Answer.{fieldsOf};
 ghost use Rattle.text.specs.Text.{spaced};
 ghost use Rattle.line.specs.Line.{acceptedWord, refusedWord, lineOf};
 

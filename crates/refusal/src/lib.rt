@@ -28,6 +28,12 @@ pub enum Refusal {
     NoConstantSpeed(u8),
 }
 
+// What the caller gets of an evaluation.
+pub enum Answer {
+    Accepted,
+    Refused(Refusal),
+}
+
 // The number of a refusal.
 pub fn number(r: Refusal) -> u8
     ensures { λ n. ⌜ n ≡ numberOf r ⌝ }

@@ -53,3 +53,11 @@ outcomeIn b =
       pmr = number b 16 2;
       a = record { 0 = number b 18 2 };
     }
+
+-- the result's 13 fields as they are printed: in record order, pass last
+unfoldable pub fieldsOf : Outcome → List ℕ
+fieldsOf o =
+    o .rule ∷ o .i ∷ o .j ∷ o .k ∷ o .kp
+    ∷ o .w .0 ∷ o .c .0 ∷ o .«l_urban»
+    ∷ o .«a_urban» .0 ∷ o .«a_ref» .0 ∷ o .pmr ∷ o .a .0
+    ∷ flag (o .pass) ∷ []

@@ -2,7 +2,7 @@
 use borrow.Author.Needs.{needs}
 use mathlib.Core.Path.{ap, _∙_}
 use borrow.Author.Tests.{lt-ltb, le-ltb}
-use Rattle.evaluation.specs.declared.Answer.{Answer}
+use Rattle.refusal.specs.declared.Answer.{Answer}
 use Rattle.line.specs.Line.{lineOf}
 use Rattle.embed.proofs.ruthimpo_line.Statement.{statement}
 use Rattle.embed.proofs.ruthimpo_line.Tie as tie

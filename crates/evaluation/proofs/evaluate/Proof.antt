@@ -9,7 +9,7 @@ use Rattle.evaluation.specs.Answer.{answerBy, answerOf, bufferBy, buffer
 use Rattle.units.specs.Bytes.{number}
 use Rattle.result.proofs.Results.{at-ten}
 use Rattle.refusal.specs.declared.Refusal.{Refusal}
-use Rattle.evaluation.specs.declared.Answer.the-variants.{Accepted, Refused}
+use Rattle.refusal.specs.declared.Answer.the-variants.{Accepted, Refused}
 use Rattle.evaluation.specs.Demand.{CloseTo, RisesFrom}
 use Rattle.evaluation.proofs.Accepted.{close-to}
 use Rattle.evaluation.proofs.Rising.{rises-from}

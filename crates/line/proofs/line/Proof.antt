@@ -5,8 +5,8 @@ use mathlib.Core.List.{List, [], _∷_, _++_}
 use Prim.Native.Nat.{ℕ}
 use native.Mathlib.Omega.{arith}
 use Rattle.urban.specs.declared.Outcome.{Outcome}
-use Rattle.evaluation.specs.declared.Answer.{Answer}
-use Rattle.evaluation.specs.Answer.{fieldsOf}
+use Rattle.refusal.specs.declared.Answer.{Answer}
+use Rattle.result.specs.Result.{fieldsOf}
 use Rattle.text.specs.Text.{spaced}
 use Rattle.line.specs.Line.{acceptedWord, lineOf}
 use Rattle.line.proofs.line.Statement.{statement}

@@ -4,7 +4,7 @@ use mathlib.Core.Path.{ap, _∙_}
 use mathlib.Core.List.{List, [], _∷_, _++_}
 use Prim.Native.Nat.{ℕ}
 use native.Mathlib.Omega.{arith}
-use Rattle.evaluation.specs.Answer.{fieldsOf}
+use Rattle.result.specs.Result.{fieldsOf}
 use Rattle.text.specs.Text.{decimalOf, spaced}
 use Rattle.line.specs.Line.{acceptedWord}
 use Rattle.line.proofs.put_outcome.Statement.{statement}
