@@ -1,3 +1,2 @@
 pub mod Causes
 pub mod Verdict
-pub mod Starred

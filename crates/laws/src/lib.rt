@@ -1,1 +1,1 @@
-// Laws about the evaluation: each refusal exactly on its cause, accepted or refused and never both, the starred examples. No code.
+// Laws about the evaluation: each refusal exactly on its cause, accepted or refused and never both. No code.

@@ -40,15 +40,15 @@ use Rattle.decision.specs.Decision.{trackIn, referenceAt, finishBy, decideGears
 use Rattle.selection.specs.Selection.{noFour, gearAt, windowAt, weighedGear, selectOne, selectPair, selectedIn, selectionBy}
 use Rattle.result.specs.Result.{fieldsOf}
 use Rattle.evaluation.specs.Demand.{chosenIn, runsOf, chosenRunsBy, chosenRuns}
-use Rattle.laws.specs.Starred.{Example, gives, shouldGive, Holds, starred, workedSheet}
+use Rattle.starred.specs.Starred.{Example, gives, shouldGive, Holds, starred, workedSheet}
 
-same : List ℕ → List ℕ → Bool
+unfoldable pub same : List ℕ → List ℕ → Bool
 same [] [] = true
 same (x ∷ xs) (y ∷ ys) = eqb x y && same xs ys
 same [] (y ∷ ys) = false
 same (x ∷ xs) [] = false
 
-same→≡ : (xs ys : List ℕ) → T (same xs ys) → xs ≡ ys
+pub same→≡ : (xs ys : List ℕ) → T (same xs ys) → xs ≡ ys
 unfolding same
 same→≡ [] [] t = refl
 same→≡ (x ∷ xs) (y ∷ ys) t = ap₂ _∷_ (eqb→eq x y (and-l (eqb x y) (same xs ys) t)) (same→≡ xs ys (and-r (eqb x y) (same xs ys) t))

@@ -1,0 +1,128 @@
+-- A louder sheet: the worked sheet with the left levels of gear 3's acceleration runs 1.0 dB higher. The same runs are chosen, none is lower,
+-- and L_urban is 71 for 70: what the promise `rising` asks of two sheets can be met. Assumes nothing.
+use mathlib.Core.Path.{_≡_, refl, sym, subst, _∙_}
+use mathlib.Core.Bool.{Bool, true, false, not, _&&_, _||_}
+use mathlib.Core.List.{List, [], _∷_}
+use Prim.Native.Nat.{ℕ, zero, suc, _+_, _≤_, _<_}
+use native.Mathlib.Nat.{le-of-suc-le-suc, not-suc-le-zero}
+use native.Mathlib.Omega.{arith}
+use lib.Dec.{T, eqb, ltb, eqb→eq}
+use lib.Ieee.{ofBits, lt}
+use lib.Ieee.Fits.{and-l, and-r}
+use lib.ListN.{length, getD}
+use lib.Seq.{sets}
+use borrow.Author.Tests.{eqb-true, eqb-false, ltb-true, ltb-false}
+use Rattle.units.specs.Bytes.{number}
+use Rattle.units.specs.Lowest.{lowest}
+use Rattle.units.specs.Rounding.{rounded}
+use Rattle.level.specs.Correction.{corrections, correctionOf, correctedSide, sideOf}
+use Rattle.reading.specs.Range.{inRange}
+use Rattle.level.specs.Level.{tenthsOf}
+use Rattle.reading.specs.Reading.{readingOf}
+use Rattle.reference.specs.Reference.{pmrOf, between, aUrban, aRef}
+use Rattle.records.specs.Records.{records, recordAt}
+use Rattle.records.specs.Fields.{zeros}
+use Rattle.records.specs.Layout.{vehicleTests, vehicleGood, vehicleIn, closingTests, closingGood, closingIn}
+use Rattle.run.specs.Layout.{runTests, runGood, runIn, readingFrom}
+use Rattle.sheet.specs.Examining.{wrongSize, noVehicle, noClosing, goodAt, lowestBroken, examined}
+use Rattle.valid.specs.Valid.{bothSides, validOf, candidateOf}
+use Rattle.rest.specs.Rest.{restFrom, restOf}
+use Rattle.four.specs.Four.{spanned, fitting, largerSum}
+use Rattle.window.specs.Windows.{nobody as window·nobody, fourAt, firstPlace, firstWindow}
+use Rattle.acceleration.specs.Acceleration.{accelerationOf, meanOf, kOf}
+use Rattle.gears.specs.Remaining.{nobody as gears·nobody, a, firstNotFalling}
+use Rattle.nearest.specs.Nearest.{apart, near, nearer, nearest}
+use Rattle.rules.specs.Rules.{pastLast, jOf, firstBelow, oneAt, acrossOf, choiceOf}
+use Rattle.presence.specs.Presence.{some, accelerates, anyRun, hasRun}
+use Rattle.state.specs.State.{windowOf, within, gearAcceleration, byWindow, stateOf}
+use Rattle.session.specs.Table.{lowestLacking, remainingFrom, remaining, gearsOf, windowsOf}
+use Rattle.demand.specs.Demand.{chosenOf}
+use Rattle.urban.specs.Urban.{partPower, lUrbanOf, outcomeOf}
+use Rattle.weighing.specs.Weighing.{weighedLevel, basisOf}
+use Rattle.decision.specs.Decision.{trackIn, referenceAt, finishBy, decideGears, decideWhole, decideBy, decisionOf, sheetVehicle, sheetTrack, pmrIn, choiceIn}
+use Rattle.selection.specs.Selection.{noFour, gearAt, windowAt, weighedGear, selectOne, selectPair, selectedIn, selectionBy}
+use Rattle.result.specs.Result.{fieldsOf}
+use Rattle.evaluation.specs.Demand.{chosenIn, runsOf, chosenRunsBy, chosenRuns, ofLevel, OnlyLevels, floatAt, lower, NoneLower}
+use Rattle.starred.specs.Starred.{decisionGives, workedSheet}
+use Rattle.starred.proofs.Starred.{same, same→≡, worked-runs}
+
+-- 73.5 for 72.5 in records 5 and 6, 73.25 for 72.25 in records 7 and 8
+abbrev louderSheet : List ℕ
+louderSheet = sets (sets (sets (sets workedSheet 170 (0x93 ∷ [])) 202 (0x93 ∷ [])) 234 (0x92 ∷ [])) 266 (0x92 ∷ [])
+
+-- ---- a test of the `count` numbers from n on
+
+every : (ℕ → Bool) → ℕ → ℕ → Bool
+every test n zero = true
+every test n (suc count) = test n && every test (n + 1) count
+
+every-at : (test : ℕ → Bool) (count n m : ℕ) → T (every test n count) → n ≤ m → m < n + count → T (test m)
+unfolding every
+every-at test zero n m t h l = absurd (omega arith)
+every-at test (suc count) n m t h l = by (eqb n m) refl (every-at test count (n + 1) m (and-r (test n) (every test (n + 1) count) t))
+  where
+    by : (b : Bool) → eqb n m ≡ b → (n + 1 ≤ m → m < n + 1 + count → T (test m)) → T (test m)
+    by true e later = let same : n ≡ m = eqb-true n m e in subst (λ (k : ℕ). T (test k)) same (and-l (test n) (every test (n + 1) count) t)
+    by false e later = let other = eqb-false n m e in later (omega arith) (omega arith)
+
+past : (xs : List ℕ) (m : ℕ) → length xs ≤ m → getD xs m 0 ≡ 0
+past [] zero h = refl
+past [] (suc m) h = refl
+past (x ∷ xs) zero h = absurd (not-suc-le-zero h)
+past (x ∷ xs) (suc m) h = past xs m (le-of-suc-le-suc h)
+
+-- ---- only levels are changed
+
+same-byte : ℕ → Bool
+same-byte m = ofLevel workedSheet m || eqb (getD workedSheet m 0) (getD louderSheet m 0)
+
+every-byte : T (every same-byte 0 704)
+unfolding every same-byte ofLevel records recordAt number
+every-byte = tt
+
+only : OnlyLevels workedSheet louderSheet
+unfolding same-byte number
+only = record { size = refl; alike = λ m e. by m e (ltb m 704) refl }
+  where
+    by : (m : ℕ) → ofLevel workedSheet m ≡ false → (b : Bool) → ltb m 704 ≡ b → getD workedSheet m 0 ≡ getD louderSheet m 0
+    by m e true h = eqb→eq (getD workedSheet m 0) (getD louderSheet m 0) (rw e at (every-at same-byte 704 0 m every-byte (omega arith) (omega (arith, ltb-true m 704 h))))
+    by m e false h = past workedSheet m (ltb-false m 704 h) ∙ sym (past louderSheet m (ltb-false m 704 h))
+
+-- ---- the chosen runs
+
+runs : List ℕ
+runs = 5 ∷ 6 ∷ 7 ∷ 8 ∷ 13 ∷ 14 ∷ 15 ∷ 16 ∷ 9 ∷ 10 ∷ 11 ∷ 12 ∷ 17 ∷ 18 ∷ 19 ∷ 20 ∷ []
+
+louder-runs : chosenRuns louderSheet ≡ runs
+unfolding runs same number lowest rounded corrections correctionOf correctedSide sideOf inRange tenthsOf readingOf ofBits pmrOf between aUrban aRef records recordAt zeros vehicleTests vehicleGood vehicleIn runTests runGood runIn readingFrom closingTests closingGood closingIn wrongSize noVehicle noClosing goodAt lowestBroken examined bothSides validOf candidateOf restFrom restOf spanned fitting window·nobody fourAt firstPlace firstWindow largerSum accelerationOf meanOf gears·nobody a firstNotFalling apart near nearer nearest pastLast jOf firstBelow oneAt acrossOf choiceOf kOf some accelerates anyRun hasRun windowOf within gearAcceleration byWindow stateOf lowestLacking remainingFrom remaining gearsOf windowsOf chosenOf partPower lUrbanOf outcomeOf weighedLevel basisOf trackIn referenceAt noFour gearAt windowAt weighedGear selectOne selectPair selectedIn sheetVehicle sheetTrack pmrIn choiceIn chosenIn runsOf chosenRunsBy chosenRuns
+louder-runs = same→≡ _ _ tt
+
+-- none is lower
+kept : ℕ → Bool
+kept p = not (lower workedSheet louderSheet (getD runs p 0))
+
+every-kept : T (every kept 0 16)
+unfolding every kept runs lower floatAt lt ofBits records recordAt number
+every-kept = tt
+
+is-false : (b : Bool) → T (not b) → b ≡ false
+is-false true t = absurd t
+is-false false t = refl
+
+-- what `rising` asks of two sheets
+pub louder : NoneLower workedSheet louderSheet
+unfolding runs kept
+louder =
+    record {
+      only-levels = only;
+      same-runs = worked-runs ∙ sym louder-runs;
+      none-lower = λ p h. by p (rw worked-runs at h);
+    }
+  where
+    by : (p : ℕ) → p < length runs → lower workedSheet louderSheet (getD (chosenRuns workedSheet) p 0) ≡ false
+    by p h = rw worked-runs (is-false (lower workedSheet louderSheet (getD runs p 0)) (every-at kept 16 0 p every-kept (omega arith) h))
+
+-- and what it gives: 71 for 70
+pub louder-result : decisionGives (decisionOf louderSheet) ≡ 3 ∷ 3 ∷ 4 ∷ 78 ∷ 29 ∷ 727 ∷ 658 ∷ 71 ∷ 106 ∷ 149 ∷ 667 ∷ 149 ∷ 1 ∷ []
+unfolding same number lowest rounded corrections correctionOf correctedSide sideOf inRange tenthsOf readingOf ofBits pmrOf between aUrban aRef records recordAt zeros vehicleTests vehicleGood vehicleIn runTests runGood runIn readingFrom closingTests closingGood closingIn wrongSize noVehicle noClosing goodAt lowestBroken examined bothSides validOf candidateOf restFrom restOf spanned fitting window·nobody fourAt firstPlace firstWindow largerSum accelerationOf meanOf gears·nobody a firstNotFalling apart near nearer nearest pastLast jOf firstBelow oneAt acrossOf choiceOf kOf some accelerates anyRun hasRun windowOf within gearAcceleration byWindow stateOf lowestLacking remainingFrom remaining gearsOf windowsOf chosenOf partPower lUrbanOf outcomeOf weighedLevel basisOf trackIn referenceAt noFour gearAt windowAt weighedGear selectOne selectPair selectedIn selectionBy finishBy decideGears decideWhole decideBy decisionOf fieldsOf
+louder-result = same→≡ _ _ tt
