@@ -6,6 +6,7 @@ use Prim.Native.Nat.{ℕ, _*_}
 use lib.Dec.{T, eqb}
 use Rattle.units.specs.Rounding.{rounded}
 use Rattle.units.specs.Tests.{allOf}
+use Rattle.acceleration.specs.Acceleration.{kOf}
 use Rattle.weighing.specs.declared.Reference.{Reference}
 use Rattle.urban.specs.declared.Outcome.{Outcome}
 use Rattle.weighing.specs.Weighing.{weighedLevel, basisOf}
@@ -93,10 +94,10 @@ examples =
     ∷ []
 
 every-holds : T (allOf (map holds examples))
-unfolding reference gear fields same equal holds car slow furthest examples rounded weighedLevel basisOf partPower lUrbanOf outcomeOf chosenOf mean exactK exactWeighed exactLevel exactW exactC aPrime exactKp figure below _⊕_ _⊖_ _⊗_
+unfolding reference gear fields same equal holds car slow furthest examples rounded weighedLevel basisOf partPower lUrbanOf outcomeOf chosenOf kOf mean exactK exactWeighed exactLevel exactW exactC aPrime exactKp figure below _⊕_ _⊖_ _⊗_
 every-holds = tt
 
 -- "at most" is reached: |71 − 70.399| = 0.6 + 0.005 × (0.2 + 0)
 reached : T (equal (apart (reported slow furthest 72 over 1) (figure slow furthest)) (bound slow furthest))
-unfolding reference gear equal slow furthest rounded weighedLevel basisOf lUrbanOf outcomeOf chosenOf reported mean exactK exactWeighed exactLevel exactW exactC figure below _⊕_ _⊖_ _⊗_ larger apart Dk Dp bound
+unfolding reference gear equal slow furthest rounded weighedLevel basisOf lUrbanOf outcomeOf chosenOf kOf reported mean exactK exactWeighed exactLevel exactW exactC figure below _⊕_ _⊖_ _⊗_ larger apart Dk Dp bound
 reached = tt

@@ -9,6 +9,7 @@ use borrow.Author.Tests.{ltb-true, ltb-false}
 use Rattle.units.specs.Rounding.{rounded}
 use Rattle.units.proofs.Rounding.{rounded-same, rounded-most}
 use Rattle.units.proofs.Tests.{chosen}
+use Rattle.acceleration.specs.Acceleration.{kOf}
 use Rattle.weighing.specs.declared.Reference.{Reference}
 use Rattle.urban.specs.declared.LUrban.{LUrban}
 use Rattle.weighing.specs.Weighing.{weighedLevel, basisOf}
@@ -40,7 +41,7 @@ level-is r a w c =
     by false yes′ no′ x y p q = q
 
 pub reported-is : (r : Reference) (g : Gears) (limit : ℕ) → reported r g limit ≡ joined (ltb (r .pmr) 250) (partPower (r .«a_urban» .0) (aPrime r g)) (reportedLevel (λ x. x .w) r g) (reportedLevel (λ x. x .c) r g)
-unfolding reported outcomeOf basisOf chosenOf aPrime reportedLevel reportedK
+unfolding reported outcomeOf basisOf chosenOf kOf aPrime reportedLevel reportedK
 reported-is r (one rule g) limit = level-is r (g .a) (rounded (g .w) 4) (rounded (g .c) 4)
 reported-is r (pair rule i j) limit = level-is r (r .«a_ref» .0) _ _
 

@@ -1,7 +1,8 @@
 -- Demand 3, "Close, and rising", on the numbers of the chosen gears.
 use mathlib.Core.Path.{_≡_}
-use Prim.Native.Nat.{ℕ, _-_, _*_, _≤_, _<_}
+use Prim.Native.Nat.{ℕ, _≤_, _<_}
 use Rattle.units.specs.Rounding.{rounded}
+use Rattle.acceleration.specs.Acceleration.{kOf}
 use Rattle.weighing.specs.declared.Reference.{Reference}
 use Rattle.weighing.specs.declared.Chosen.{Chosen}
 use Rattle.weighing.specs.declared.Chosen.the-variants.{One, Pair}
@@ -26,7 +27,7 @@ chosenOf r (pair rule i j) =
       rule = rule;
       i = i .number;
       j = j .number;
-      k = rounded (100 * (r .«a_ref» .0 - j .a)) (i .a - j .a);
+      k = kOf (r .«a_ref» .0) (i .a) (j .a);
       «w_i» = record { 0 = rounded (i .w) 4 };
       «w_j» = record { 0 = rounded (j .w) 4 };
       «c_i» = record { 0 = rounded (i .c) 4 };

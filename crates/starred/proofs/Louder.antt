@@ -1,20 +1,19 @@
 -- A louder sheet: the worked sheet with the left levels of gear 3's acceleration runs 1.0 dB higher. The same runs are chosen, none is lower,
 -- and L_urban is 71 for 70: what the promise `rising` asks of two sheets can be met. Assumes nothing.
-use mathlib.Core.Path.{_≡_, refl, sym, subst, _∙_}
-use mathlib.Core.Bool.{Bool, true, false, not, _&&_, _||_}
+use mathlib.Core.Path.{_≡_, refl, sym, _∙_}
+use mathlib.Core.Bool.{Bool, true, false, not, _||_}
 use mathlib.Core.List.{List, [], _∷_}
-use Prim.Native.Nat.{ℕ, zero, suc, _+_, _≤_, _<_}
+use Prim.Native.Nat.{ℕ, zero, suc, _≤_, _<_}
 use native.Mathlib.Nat.{le-of-suc-le-suc, not-suc-le-zero}
-use native.Mathlib.Omega.{arith}
 use lib.Dec.{T, eqb, ltb, eqb→eq}
 use lib.Ieee.{ofBits, lt}
-use lib.Ieee.Fits.{and-l, and-r}
 use lib.ListN.{length, getD}
 use lib.Seq.{sets}
-use borrow.Author.Tests.{eqb-true, eqb-false, ltb-true, ltb-false}
+use borrow.Author.Tests.{ltb-true, ltb-false}
 use Rattle.units.specs.Bytes.{number}
 use Rattle.units.specs.Lowest.{lowest}
 use Rattle.units.specs.Rounding.{rounded}
+use Rattle.units.proofs.Table.{every, at}
 use Rattle.level.specs.Correction.{corrections, correctionOf, correctedSide, sideOf}
 use Rattle.reading.specs.Range.{inRange}
 use Rattle.level.specs.Level.{tenthsOf}
@@ -50,21 +49,6 @@ use Rattle.starred.proofs.Starred.{same, same→≡, worked-runs}
 abbrev louderSheet : List ℕ
 louderSheet = sets (sets (sets (sets workedSheet 170 (0x93 ∷ [])) 202 (0x93 ∷ [])) 234 (0x92 ∷ [])) 266 (0x92 ∷ [])
 
--- ---- a test of the `count` numbers from n on
-
-every : (ℕ → Bool) → ℕ → ℕ → Bool
-every test n zero = true
-every test n (suc count) = test n && every test (n + 1) count
-
-every-at : (test : ℕ → Bool) (count n m : ℕ) → T (every test n count) → n ≤ m → m < n + count → T (test m)
-unfolding every
-every-at test zero n m t h l = absurd (omega arith)
-every-at test (suc count) n m t h l = by (eqb n m) refl (every-at test count (n + 1) m (and-r (test n) (every test (n + 1) count) t))
-  where
-    by : (b : Bool) → eqb n m ≡ b → (n + 1 ≤ m → m < n + 1 + count → T (test m)) → T (test m)
-    by true e later = let same : n ≡ m = eqb-true n m e in subst (λ (k : ℕ). T (test k)) same (and-l (test n) (every test (n + 1) count) t)
-    by false e later = let other = eqb-false n m e in later (omega arith) (omega arith)
-
 past : (xs : List ℕ) (m : ℕ) → length xs ≤ m → getD xs m 0 ≡ 0
 past [] zero h = refl
 past [] (suc m) h = refl
@@ -73,11 +57,11 @@ past (x ∷ xs) (suc m) h = past xs m (le-of-suc-le-suc h)
 
 -- ---- only levels are changed
 
-same-byte : ℕ → Bool
-same-byte m = ofLevel workedSheet m || eqb (getD workedSheet m 0) (getD louderSheet m 0)
+same-byte : ℕ → ℕ → Bool
+same-byte m x = ofLevel workedSheet m || eqb x (getD louderSheet m 0)
 
-every-byte : T (every same-byte 0 704)
-unfolding every same-byte ofLevel records recordAt number
+every-byte : T (every same-byte 0 workedSheet)
+unfolding same-byte ofLevel records recordAt number
 every-byte = tt
 
 only : OnlyLevels workedSheet louderSheet
@@ -85,7 +69,7 @@ unfolding same-byte number
 only = record { size = refl; alike = λ m e. by m e (ltb m 704) refl }
   where
     by : (m : ℕ) → ofLevel workedSheet m ≡ false → (b : Bool) → ltb m 704 ≡ b → getD workedSheet m 0 ≡ getD louderSheet m 0
-    by m e true h = eqb→eq (getD workedSheet m 0) (getD louderSheet m 0) (rw e at (every-at same-byte 704 0 m every-byte (omega arith) (omega (arith, ltb-true m 704 h))))
+    by m e true h = eqb→eq (getD workedSheet m 0) (getD louderSheet m 0) (rw e at (at same-byte workedSheet every-byte m (ltb-true m 704 h)))
     by m e false h = past workedSheet m (ltb-false m 704 h) ∙ sym (past louderSheet m (ltb-false m 704 h))
 
 -- ---- the chosen runs
@@ -98,11 +82,11 @@ unfolding runs same number lowest rounded corrections correctionOf correctedSide
 louder-runs = same→≡ _ _ tt
 
 -- none is lower
-kept : ℕ → Bool
-kept p = not (lower workedSheet louderSheet (getD runs p 0))
+kept : ℕ → ℕ → Bool
+kept p n = not (lower workedSheet louderSheet n)
 
-every-kept : T (every kept 0 16)
-unfolding every kept runs lower floatAt lt ofBits records recordAt number
+every-kept : T (every kept 0 runs)
+unfolding kept runs lower floatAt lt ofBits records recordAt number
 every-kept = tt
 
 is-false : (b : Bool) → T (not b) → b ≡ false
@@ -120,7 +104,7 @@ louder =
     }
   where
     by : (p : ℕ) → p < length runs → lower workedSheet louderSheet (getD (chosenRuns workedSheet) p 0) ≡ false
-    by p h = rw worked-runs (is-false (lower workedSheet louderSheet (getD runs p 0)) (every-at kept 16 0 p every-kept (omega arith) h))
+    by p h = rw worked-runs (is-false (lower workedSheet louderSheet (getD runs p 0)) (at kept runs every-kept p h))
 
 -- and what it gives: 71 for 70
 pub louder-result : decisionGives (decisionOf louderSheet) ≡ 3 ∷ 3 ∷ 4 ∷ 78 ∷ 29 ∷ 727 ∷ 658 ∷ 71 ∷ 106 ∷ 149 ∷ 667 ∷ 149 ∷ 1 ∷ []
