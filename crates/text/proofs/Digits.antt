@@ -1,11 +1,14 @@
--- The digits of a number, case by case as `put_digits` takes them. Assumes nothing.
+-- The digits of a number, case by case as `put_digits` takes them, and numbers in a row. Assumes nothing.
 use Prim.Native.Nat.{ℕ, zero, suc, _+_, _-_, _/_, _%_, _≤_, _<_}
 use mathlib.Core.Path.{_≡_, sym, ap, _∙_}
 use mathlib.Core.List.{List, [], _∷_, _++_, append-nil}
 use native.Mathlib.Nat.{not-suc-le-zero}
+use native.Mathlib.Numerals.{add-one}
 use native.Mathlib.Omega.{arith}
+use lib.ListN.{length, drop, getD, drop-of-length-le}
+use lib.Seq.{drop-cons}
 use borrow.Author.Tests.{lt-ltb, le-ltb}
-use Rattle.text.specs.Text.{digitsOf}
+use Rattle.text.specs.Text.{digitsOf, decimalOf, spaced}
 
 pub none : (s : List ℕ) (most n : ℕ) → most ≡ 0 → s ≡ s ++ digitsOf most n
 unfolding digitsOf
@@ -22,3 +25,13 @@ more-digits zero n h large = absurd (not-suc-le-zero h)
 more-digits (suc most) n h large =
     let pred : suc most - 1 ≡ most = omega arith in
     simp (le-ltb n 10 large, pred)
+
+-- ---- numbers, as `put_line` takes them
+
+pub one-more : (s ns : List ℕ) (n : ℕ) → n < length ns → spaced ((s ++ (32 ∷ [])) ++ digitsOf 20 (getD ns n 0)) (drop (n + 1) ns) ≡ spaced s (drop n ns)
+unfolding spaced decimalOf
+one-more s ns n h = rw (add-one n, drop-cons ns n 0 h)
+
+pub no-more : (s ns : List ℕ) (n : ℕ) → length ns ≤ n → s ≡ spaced s (drop n ns)
+unfolding spaced
+no-more s ns n h = rw (drop-of-length-le ns h)

@@ -1,18 +1,32 @@
-// Numbers as text, laid out on a lent buffer.
+// Words and numbers as text, laid out on a lent buffer.
 ghost use mathlib.Core.Path.{_≡_};
 ghost use mathlib.Core.List.{[], _∷_, _++_};
-ghost use Prim.Native.Nat.{_+_, _≤_, _<_};
+ghost use Prim.Native.Nat.{_+_, _*_, _≤_, _<_};
 ghost use lib.ListN.{length, take};
-ghost use Rattle.text.specs.Text.{digitsOf, decimalOf, spaced};
+ghost use Rattle.text.specs.Text.{digitsOf, spaced};
 
 // The byte b at `at`, and the place after it.
-pub fn put(b: u8, out: &mut [u8], at: usize) -> usize
+fn put(b: u8, out: &mut [u8], at: usize) -> usize
     requires { ⌜ at < length (now out) ⌝ }
     ensures { λ r. ⌜ r ≡ at + 1 ⌝ }
     ensures { λ r. ⌜ take r (now (out .exit)) ≡ take at (now (out .entry)) ++ (b ∷ []) ⌝ }
 {
     out[at] = b;
     at + 1
+}
+
+// The bytes of a word at the front of `out`; answers how many.
+fn put_word(word: &[u8], out: &mut [u8]) -> usize
+    requires { ⌜ length (now word) ≤ length (now out) ⌝ }
+    ensures { λ r. ⌜ r ≡ length (now (word .entry)) ⌝ }
+    ensures { λ r. ⌜ take r (now (out .exit)) ≡ now (word .entry) ⌝ }
+{
+    let mut n = 0;
+    while n < word.len() {
+        out[n] = word[n];
+        n += 1;
+    }
+    n
 }
 
 // The digits of n, the last `most` at the most. Recursive, since the most significant digit goes first.
@@ -31,24 +45,19 @@ fn put_digits(n: u64, most: usize, out: &mut [u8], at: usize) -> usize
     }
 }
 
-// A space and the digits of n: at most 21 bytes.
-pub fn put_number(n: u64, out: &mut [u8], at: usize) -> usize
-    requires { ⌜ at + 21 ≤ length (now out) ⌝ }
-    ensures { λ r. ⌜ r ≤ at + 21 ⌝ }
-    ensures { λ r. ⌜ take r (now (out .exit)) ≡ (take at (now (out .entry)) ++ (32 ∷ [])) ++ decimalOf n ⌝ }
+// A line at the front of `out`: a word, each number after a space, and a line feed; answers how many bytes it takes.
+// A number takes at most 21 bytes with its space.
+pub fn put_line(word: &[u8], numbers: &[u64], out: &mut [u8]) -> usize
+    requires { ⌜ length (now word) + 21 * length (now numbers) < length (now out) ⌝ }
+    ensures { λ r. ⌜ r ≤ length (now (word .entry)) + 21 * length (now (numbers .entry)) + 1 ⌝ }
+    ensures { λ r. ⌜ take r (now (out .exit)) ≡ spaced (now (word .entry)) (now (numbers .entry)) ++ (10 ∷ []) ⌝ }
 {
-    let next = put(32, out, at);
-    put_digits(n, 20, out, next)
-}
-
-// Four numbers, each after a space.
-pub fn put_four(a: u64, b: u64, c: u64, d: u64, out: &mut [u8], at: usize) -> usize
-    requires { ⌜ at + 84 ≤ length (now out) ⌝ }
-    ensures { λ r. ⌜ r ≤ at + 84 ⌝ }
-    ensures { λ r. ⌜ take r (now (out .exit)) ≡ spaced (take at (now (out .entry))) (a ∷ b ∷ c ∷ d ∷ []) ⌝ }
-{
-    let e = put_number(a, out, at);
-    let f = put_number(b, out, e);
-    let g = put_number(c, out, f);
-    put_number(d, out, g)
+    let mut end = put_word(word, out);
+    let mut n = 0;
+    while n < numbers.len() {
+        end = put(32, out, end);
+        end = put_digits(numbers[n], 20, out, end);
+        n += 1;
+    }
+    put(10, out, end)
 }

@@ -1,67 +1,65 @@
 -- `line::line` meets its contract. Assumes nothing.
 use borrow.Author.Needs.{needs}
-use mathlib.Core.Path.{sym, ap, _∙_}
-use mathlib.Core.List.{List, [], _∷_, _++_}
-use Prim.Native.Nat.{ℕ}
+use mathlib.Core.Path.{_∙_}
 use native.Mathlib.Omega.{arith}
-use Rattle.urban.specs.declared.Outcome.{Outcome}
-use Rattle.refusal.specs.declared.Answer.{Answer}
-use Rattle.result.specs.Result.{fieldsOf}
-use Rattle.text.specs.Text.{spaced}
-use Rattle.line.specs.Line.{acceptedWord, lineOf}
+use Rattle.line.specs.Line.{acceptedWord, refusedWord, lineOf}
 use Rattle.line.proofs.line.Statement.{statement}
 use Rattle.line.proofs.line.Tie as tie
-use Rattle.line.proofs.line.Reads as reads
-use Rattle.line.proofs.line.Lts as lts
-use Rattle.text.proofs.put.Reads as put-reads
-use Rattle.line.proofs.put_outcome.Reads as put-outcome-reads
-use Rattle.line.proofs.put_refusal.Reads as put-refusal-reads
-use Rattle.result.proofs.read_back.Reads as read-back-reads
 
 enum-told : tie.Need-enum-told
 enum-told c = search needs
 
-read-back-requires : tie.Need-read-back-requires
-read-back-requires c κs = search needs
+slice-aggregate-put-line : tie.Need-slice-aggregate-put-line
+slice-aggregate-put-line c = search needs
 
-put-outcome-requires : tie.Need-put-outcome-requires
-put-outcome-requires c κs = search needs
+numbers-of-requires : tie.Need-numbers-of-requires
+numbers-of-requires c κs = search needs
 
-put-requires : tie.Need-put-requires
-put-requires c κs = search needs
+slice-aggregate-put-line-2 : tie.Need-slice-aggregate-put-line-2
+slice-aggregate-put-line-2 c = search needs
+
+put-line-requires : tie.Need-put-line-requires
+put-line-requires c κs = search needs
 
 enum-known-answer : tie.Need-enum-known-answer
 enum-known-answer c = search needs
 
-put-refusal-requires : tie.Need-put-refusal-requires
-put-refusal-requires c κs = search needs
+slice-aggregate-put-line-3 : tie.Need-slice-aggregate-put-line-3
+slice-aggregate-put-line-3 c = search needs
 
-put-requires-2 : tie.Need-put-requires-2
-put-requires-2 c κs = search needs
+number-requires : tie.Need-number-requires
+number-requires c κs = search needs
+
+cast-t20 : tie.Need-cast-t20
+cast-t20 c = search needs
+
+place-requires : tie.Need-place-requires
+place-requires c κs = search needs
+
+slice-aggregate-put-line-4 : tie.Need-slice-aggregate-put-line-4
+slice-aggregate-put-line-4 c = search needs
+
+put-line-requires-2 : tie.Need-put-line-requires-2
+put-line-requires-2 c κs = search needs
 
 same-length : tie.Need-same-length
 same-length c = search needs
 
 returns : tie.Need-returns
-unfolding lineOf
+unfolding lineOf acceptedWord
 returns c = (
-  omega (arith, c .before .before .before .before .before .before .put-outcome .ensures .0),
-  c .before .before .put .ensures .1
-      ∙ ap (λ (s : List ℕ). s ++ (10 ∷ [])) (c .before .before .before .before .before .before .put-outcome .ensures .1)
-      ∙ ap (λ (o : Outcome). spaced acceptedWord (fieldsOf o) ++ (10 ∷ [])) (c .before .before .before .before .before .before .before .before .read-back .ensures)
-      ∙ sym (ap (λ (a : Answer). lineOf a (c .before .before .before .before .before .before .before .before .before .before .before .before .before .args .result .now)) (c .before .before .before .before .before .before .before .before .before .enum-told .given .1)),
+  omega arith,
+  c .before .before .put-line .ensures .1 ∙ rw (c .before .before .before .before .before .before .before .enum-told .given .1, c .before .before .before .before .before .numbers-of .ensures),
 )
 
 same-length-2 : tie.Need-same-length-2
 same-length-2 c = search needs
 
 returns-2 : tie.Need-returns-2
-unfolding lineOf
+unfolding lineOf refusedWord
 returns-2 c = (
-  omega (arith, c .before .before .before .before .before .before .put-refusal .ensures .0),
-  c .before .before .put2 .ensures .1
-      ∙ ap (λ (s : List ℕ). s ++ (10 ∷ [])) (c .before .before .before .before .before .before .put-refusal .ensures .1)
-      ∙ sym (ap (λ (a : Answer). lineOf a (c .before .before .before .before .before .before .before .before .before .before .before .before .before .args .result .now)) (c .before .before .before .before .before .before .before .before .before .answer .given .1)),
+  omega arith,
+  c .before .before .put-line2 .ensures .1 ∙ rw (c .before .before .before .before .before .before .before .before .before .answer .given .1, c .before .before .before .before .before .before .number .ensures, c .before .before .before .before .before .place .ensures),
 )
 
 pub line-spec : {M : Type 1} → statement M
@@ -69,12 +67,17 @@ line-spec =
     tie.close
     (tie.spec
     enum-told
-    read-back-requires
-    put-outcome-requires
-    put-requires
+    slice-aggregate-put-line
+    numbers-of-requires
+    slice-aggregate-put-line-2
+    put-line-requires
     enum-known-answer
-    put-refusal-requires
-    put-requires-2
+    slice-aggregate-put-line-3
+    number-requires
+    cast-t20
+    place-requires
+    slice-aggregate-put-line-4
+    put-line-requires-2
     same-length
     returns
     same-length-2
