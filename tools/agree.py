@@ -11,7 +11,7 @@ import subprocess
 import sys
 import tempfile
 
-from corpus import LINES, SHEETS, all_sheets, write
+from corpus import LINES, SHEETS, all_sheets, files_of, write
 from damage import damaged_sheets
 from make import Random
 
@@ -39,7 +39,7 @@ def differing_lines(program, directory):
 
 def compare(program, sheets):
     with tempfile.TemporaryDirectory() as directory:
-        write(directory, sheets)
+        write(directory, files_of(sheets))
         return differing_lines(program, directory)
 
 

@@ -1,14 +1,15 @@
 #!/usr/bin/env python3
-"""The corpus: a fixed set of sheets with the reckoner's line for each.
+"""The corpus: a fixed set of sheets with the reckoner's line for each, beside document 01's examples by sheets.
 
     python3 tools/corpus.py --spread                the spread over rules, refusals and groups; fails if one is thin
-    python3 tools/corpus.py --write DIR             writes data/sheets.bin and stdout
+    python3 tools/corpus.py --write DIR             writes data/examples.bin, data/sheets.bin and stdout
     python3 tools/corpus.py --check DIR             fails unless DIR holds what --write would write
     python3 tools/corpus.py --damaged N SEED DIR    writes N damaged and random sheets with their lines
     python3 tools/corpus.py --demand3               checks "close" and "rising" of demand 3
 
-DIR is crates/corpus, or one like it. data/sheets.bin holds, for each sheet, its length in four bytes, low byte first,
-and its bytes; a length of 0xFFFFFFFF ends it. stdout holds the line of each sheet.
+DIR is crates/corpus, or one like it; --damaged writes data/sheets.bin and stdout alone. A file of sheets holds, for
+each, its length in four bytes, low byte first, and its bytes; a length of 0xFFFFFFFF ends it. stdout holds the line of
+each sheet: those of the examples, then those of the corpus.
 """
 
 import os
@@ -16,11 +17,12 @@ import sys
 from collections import Counter
 
 from damage import damaged_sheets, raised
+from examples import example_sheets
 from groups import GROUPS, random_session
 from make import Random
 from reckon import Refused, chosen_records, excess, is_close, line, reckon, records_of, rise
 
-SHEETS, LINES = os.path.join("data", "sheets.bin"), "stdout"
+EXAMPLES, SHEETS, LINES = os.path.join("data", "examples.bin"), os.path.join("data", "sheets.bin"), "stdout"
 SEED = 51
 END = 2 ** 32 - 1
 LEAST_SHEETS, LEAST_OF_EACH = 2000, 30
@@ -36,7 +38,7 @@ def corpus():
 
 
 def packed(sheets):
-    """The bytes of data/sheets.bin."""
+    """The bytes of a file of sheets."""
     parts = [len(sheet).to_bytes(4, "little") + sheet for sheet in sheets]
     return b"".join(parts) + END.to_bytes(4, "little")
 
@@ -46,19 +48,29 @@ def lines(sheets):
     return "".join(line(sheet) + "\n" for sheet in sheets).encode()
 
 
-def write(directory, sheets):
+def files_of(sheets):
+    """Each file for these sheets, with its bytes."""
+    return {SHEETS: packed(sheets), LINES: lines(sheets)}
+
+
+def corpus_files():
+    """Each file of crates/corpus, with its bytes."""
+    examples, sheets = example_sheets(), all_sheets()
+    return {EXAMPLES: packed(examples), SHEETS: packed(sheets), LINES: lines(examples + sheets)}
+
+
+def write(directory, files):
     os.makedirs(os.path.join(directory, os.path.dirname(SHEETS)), exist_ok=True)
-    for name, content in ((SHEETS, packed(sheets)), (LINES, lines(sheets))):
+    for name, content in files.items():
         with open(os.path.join(directory, name), "wb") as file:
             file.write(content)
         print(f"{name}: {len(content)} bytes")
-    print(f"{len(sheets)} sheets")
 
 
-def check(directory, sheets):
-    """Whether a directory holds these sheets and their lines."""
+def check(directory, files):
+    """Whether a directory holds these files."""
     same = True
-    for name, content in ((SHEETS, packed(sheets)), (LINES, lines(sheets))):
+    for name, content in files.items():
         with open(os.path.join(directory, name), "rb") as file:
             agrees = file.read() == content
         print(f"{name}: {'as made' if agrees else 'DIFFERS'}")
@@ -155,17 +167,17 @@ def demand_3():
 
 
 def write_damaged(count, seed, directory):
-    write(directory, list(damaged_sheets(Random(seed), all_sheets(), count)))
+    write(directory, files_of(list(damaged_sheets(Random(seed), all_sheets(), count))))
 
 
 def main(arguments):
     if arguments == ["--spread"]:
         return spread()
     if len(arguments) == 2 and arguments[0] == "--write":
-        write(arguments[1], all_sheets())
+        write(arguments[1], corpus_files())
         return True
     if len(arguments) == 2 and arguments[0] == "--check":
-        return check(arguments[1], all_sheets())
+        return check(arguments[1], corpus_files())
     if len(arguments) == 4 and arguments[0] == "--damaged":
         write_damaged(int(arguments[1]), int(arguments[2]), arguments[3])
         return True

@@ -2,9 +2,10 @@
 """Document 01's driven examples, and each line of "Where the spreadsheet tempts".
 
     python3 tools/examples.py                prints each example; fails if the reckoner's answer is not the paper's
-    python3 tools/examples.py --write DIR    writes data/sheets.bin and stdout of the test program `driven`
+    python3 tools/examples.py --write DIR    writes stdout of the test program `driven`
     python3 tools/examples.py --check DIR    fails unless DIR holds what --write would write
 
+DIR is crates/driven. The examples by sheets are printed by the test program `corpus` (tools/corpus.py).
 Numbers are tenths of dB(A), hundredths of m/s² and tenths of PMR, as in the result record.
 """
 
@@ -13,7 +14,6 @@ import sys
 from fractions import Fraction
 
 import reckon
-from corpus import LINES, SHEETS, packed
 from reckon import ACCELERATION_RUN, CONSTANT_RUN, a_ref_of, a_urban_of, corrected, line, rounded
 from sheets import decibels, run, sheet, speeds_for, tenths, vehicle, worked_sheet
 
@@ -162,8 +162,8 @@ def tempted_any_four():
 TEMPTATIONS = (tempted_negative_half, tempted_a_ref, tempted_sum_of_sides, tempted_any_four)
 
 
-# What the test program `driven` prints before its sheets: in words; the paper's answer, by hand where the paper says
-# it in words; the reckoner's.
+# What the test program `driven` prints: in words; the paper's answer, by hand where the paper says it in words; the
+# reckoner's.
 
 def is_window(*levels):
     """Whether four runs with these (left, right) levels in tenths are a window: 1 if so."""
@@ -213,8 +213,8 @@ def level_sheet(*lefts):
     return side_sheet(tenths_of, tenths_of)
 
 
-def driven_sheets():
-    """The sheets of the examples, each with the paper's line where it gives one, or with the start of it."""
+def sheet_answers():
+    """The sheets of the examples, each with the paper's line where it gives one, or with a part of it."""
     yield worked_sheet()[-32:], "REFUSED 3 0"
     yield worked_sheet()[:32], "REFUSED 4 0"
     yield worked_sheet(), "OK 3 3 4 78 29 719 658 70 106 149 667 149 1"
@@ -242,43 +242,39 @@ def words(answer):
 
 
 def driven():
-    """The bytes of data/sheets.bin and of stdout; fails if the paper and the reckoner differ."""
+    """The bytes of stdout of `driven`; fails if the paper and the reckoner differ."""
     text = ""
     for group in (side_lines, window_lines, gear_lines, urban_lines):
         for title, paper, found in group():
             if words(paper) != words(found):
                 raise SystemExit(f"{title}: the paper has {words(paper)}, the reckoner {words(found)}")
             text += f"{title} {words(paper)}\n"
+    return text.encode()
+
+
+def example_sheets():
+    """The sheets of the examples; fails if the paper and the reckoner differ."""
     sheets = []
-    for whole, paper in driven_sheets():
+    for whole, paper in sheet_answers():
         if paper not in line(whole):
             raise SystemExit(f"sheet {len(sheets)}: the paper has {paper}, the reckoner {line(whole)}")
         sheets.append(whole)
-        text += line(whole) + "\n"
-    return packed(sheets), text.encode()
+    return sheets
 
 
-def files(directory):
-    return zip((os.path.join(directory, SHEETS), os.path.join(directory, LINES)), driven())
-
-
-def write(directory):
-    os.makedirs(os.path.join(directory, os.path.dirname(SHEETS)), exist_ok=True)
-    for path, content in files(directory):
-        with open(path, "wb") as file:
-            file.write(content)
-        print(f"{path}: {len(content)} bytes")
+def write(path):
+    content = driven()
+    with open(path, "wb") as file:
+        file.write(content)
+    print(f"{path}: {len(content)} bytes")
     return 0
 
 
-def check(directory):
-    differing = 0
-    for path, content in files(directory):
-        with open(path, "rb") as file:
-            agrees = file.read() == content
-        print(f"{path}: {'as made' if agrees else 'DIFFERS'}")
-        differing += not agrees
-    return 1 if differing else 0
+def check(path):
+    with open(path, "rb") as file:
+        agrees = file.read() == driven()
+    print(f"{path}: {'as made' if agrees else 'DIFFERS'}")
+    return 0 if agrees else 1
 
 
 def shown(answer):
@@ -298,7 +294,7 @@ def report(title, paper, found, tempting=None):
 
 def main(arguments):
     if len(arguments) == 2 and arguments[0] in ("--write", "--check"):
-        return {"--write": write, "--check": check}[arguments[0]](arguments[1])
+        return {"--write": write, "--check": check}[arguments[0]](os.path.join(arguments[1], "stdout"))
     print("Driven examples")
     verdicts = [report(*example) for group in EXAMPLES for example in group()]
     print("Where the spreadsheet tempts")

@@ -1,7 +1,7 @@
--- `listing::print_all` is safe and ends. The measure is the number of turns that are left. Assumes nothing.
+-- `corpus::print_all` is safe and ends. The measure is the number of turns that are left. Assumes nothing.
 use native.Mathlib.Omega.{arith}
-use Rattle.listing.proofs.print_all.Statement.{statement}
-use Rattle.listing.proofs.print_all.Tie as tie
+use Rattle.corpus.proofs.print_all.Statement.{statement}
+use Rattle.corpus.proofs.print_all.Tie as tie
 
 abbrev Inv-loop : tie.InvT-loop
 Inv-loop fd turns₀ turns = Unit {0}

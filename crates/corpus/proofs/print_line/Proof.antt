@@ -1,10 +1,10 @@
--- `listing::print_line` is safe: the line lies within the buffer that it is laid out on. Assumes nothing.
+-- `corpus::print_line` is safe: the line lies within the buffer that it is laid out on. Assumes nothing.
 use borrow.Author.Needs.{needs}
 use mathlib.Core.Path.{sym}
 use native.Mathlib.Omega.{arith}
 use lib.Seq.{length-take-le}
-use Rattle.listing.proofs.print_line.Statement.{statement}
-use Rattle.listing.proofs.print_line.Tie as tie
+use Rattle.corpus.proofs.print_line.Statement.{statement}
+use Rattle.corpus.proofs.print_line.Tie as tie
 
 slice-aggregate-evaluate : tie.Need-slice-aggregate-evaluate
 slice-aggregate-evaluate c = search needs

@@ -1,11 +1,11 @@
--- `listing::print_next` is safe: a length that is not above LONGEST lies within the buffer, before and after the reading. Assumes nothing.
+-- `corpus::print_next` is safe: a length that is not above LONGEST lies within the buffer, before and after the reading. Assumes nothing.
 use borrow.Author.Needs.{needs}
 use mathlib.Core.Path.{sym}
 use native.Mathlib.Omega.{arith}
 use lib.ListN.{length-append}
 use lib.Seq.{length-take-le}
-use Rattle.listing.proofs.print_next.Statement.{statement}
-use Rattle.listing.proofs.print_next.Tie as tie
+use Rattle.corpus.proofs.print_next.Statement.{statement}
+use Rattle.corpus.proofs.print_next.Tie as tie
 
 read-length-requires : tie.Need-read-length-requires
 read-length-requires c κs = search needs
