@@ -7,18 +7,18 @@ use native.Mathlib.Omega.{arith}
 use lib.Dec.{leb}
 use lib.ListN.{length}
 use borrow.Author.Tests.{lt-ltb, le-ltb}
-use Rattle.records.specs.declared.Vehicle.{Vehicle}
-use Rattle.records.specs.declared.Closing.{Closing}
+use Rattle.vehicle.specs.declared.Vehicle.{Vehicle}
+use Rattle.closing.specs.declared.Closing.{Closing}
 use Rattle.sheet.specs.declared.Examination.the-variants.{Whole}
 use Rattle.records.specs.Records.{recordAt}
-use Rattle.records.specs.Layout.{vehicleIn}
+use Rattle.vehicle.specs.Vehicle.{vehicleIn}
 use Rattle.sheet.specs.Examining.{examined}
-use Rattle.records.proofs.Layouts.{vehicle-ranges}
+use Rattle.vehicle.proofs.Ranges.{vehicle-ranges}
 use Rattle.sheet.proofs.Examinations.{WholeSheet, whole}
 use Rattle.units.specs.declared.Hundredths.{Hundredths}
 use Rattle.reference.specs.Reference.{pmrOf, aUrban, aRef}
 use Rattle.four.specs.declared.Four.{Four}
-use Rattle.run.specs.Runs.{RunsGood}
+use Rattle.run_record.specs.Runs.{RunsGood}
 use Rattle.gears.specs.declared.Gear.{Gear}
 use Rattle.gears.specs.Remaining.{a, firstNotFalling}
 use Rattle.rules.specs.Rules.{choiceOf}

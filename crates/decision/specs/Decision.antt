@@ -2,14 +2,15 @@
 use Prim.Native.Nat.{ℕ, _+_, _-_, max}
 use mathlib.Core.Bool.{cond, not, _||_}
 use mathlib.Core.List.{List}
-use lib.Dec.{ltb, eqb}
+use lib.Dec.{ltb}
 use lib.ListN.{length}
-use Rattle.records.specs.declared.Vehicle.{Vehicle}
-use Rattle.records.specs.declared.Closing.{Closing}
+use Rattle.vehicle.specs.declared.Vehicle.{Vehicle}
+use Rattle.closing.specs.declared.Closing.{Closing}
 use Rattle.sheet.specs.declared.Examination.{Examination}
 use Rattle.sheet.specs.declared.Examination.the-variants as examination
 use Rattle.records.specs.Records.{recordAt}
-use Rattle.records.specs.Layout.{vehicleIn, closingIn}
+use Rattle.vehicle.specs.Vehicle.{vehicleIn, pathOf}
+use Rattle.closing.specs.Closing.{closingIn}
 use Rattle.sheet.specs.Examining.{lastOf, examined}
 use Rattle.reference.specs.Reference.{pmrOf, aUrban, aRef}
 use Rattle.four.specs.declared.Four.{Four}
@@ -21,8 +22,7 @@ use Rattle.state.specs.State.{Track}
 use Rattle.session.specs.Table.{lowestLacking, gearsOf, windowsOf}
 use Rattle.presence.specs.Presence.{anyRun}
 use Rattle.weighing.specs.declared.Reference.{Reference}
-use Rattle.urban.specs.Urban.{outcomeOf}
-use Rattle.refusal.specs.declared.Refusal.{Refusal}
+use Rattle.outcome.specs.Outcome.{outcomeOf}
 use Rattle.refusal.specs.declared.Refusal.the-variants as refusal
 use Rattle.selection.specs.declared.Selection.{Selection}
 use Rattle.selection.specs.declared.Selection.the-variants as selection
@@ -32,14 +32,14 @@ use Rattle.decision.specs.declared.Decision.the-variants.{Refused, Resul
 
 -- ---- what a whole sheet is evaluated by
 
--- The background is the larger of before and after; the path is c + length, c 2,000 cm from AA' and 1,000 from PP'.
+-- The background is the larger of before and after.
 unfoldable pub trackIn : List ℕ → Vehicle → Closing → Track
 trackIn s v z =
     record {
       sheet = s;
       background = max (v .background .0) (z .background .0);
       S = v .«rated_speed»;
-      path = cond (eqb (v .«start_line») 0) 2000 1000 + v .length;
+      path = pathOf v;
     }
 
 unfoldable pub referenceAt : ℕ → Reference

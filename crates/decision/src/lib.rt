@@ -1,21 +1,19 @@
 // What a byte string decides on: the first refusal of the table whose cause holds, or the fields of the result.
+use closing::Closing;
 use four::Four;
 use gears::Gear;
-use records::Closing;
-use records::Vehicle;
+use outcome::Outcome;
 use refusal::Refusal;
 use selection::Selection;
 use sheet::Examination;
 use units::Tenths;
-use urban::Outcome;
+use vehicle::Vehicle;
 use weighing::Reference;
 ghost use mathlib.Core.Path.{_≡_};
-ghost use mathlib.Core.Bool.{cond};
 ghost use Prim.Native.Nat.{_+_, _≤_};
-ghost use lib.Dec.{eqb};
 ghost use lib.ListN.{take};
 ghost use Rattle.sheet.specs.Examining.{examined};
-ghost use Rattle.run.specs.Runs.{RunsGood};
+ghost use Rattle.run_record.specs.Runs.{RunsGood};
 ghost use Rattle.decision.specs.Decision.{finishBy, decideGears, decisionOf};
 ghost use Rattle.sheet.specs.declared.Examination.the-variants.{Whole};
 ghost use Rattle.selection.specs.Sound.{Weighable};
@@ -26,18 +24,6 @@ pub enum Decision {
     Result(Outcome),
 }
 
-// c + length in cm.
-fn path_of(v: Vehicle) -> u16
-    requires { ⌜ v .length ≤ 2000 ⌝ }
-    ensures { λ r. ⌜ r ≡ cond (eqb (v .«start_line») 0) 2000 1000 + v .length ⌝ }
-{
-    if v.start_line == 0 {
-        2000 + v.length
-    } else {
-        1000 + v.length
-    }
-}
-
 // The result of what was selected.
 fn finish_with(selection: Selection, reference: Reference, limit: u16) -> Decision
     requires { ⌜ Weighable reference selection ⌝ }
@@ -45,7 +31,11 @@ fn finish_with(selection: Selection, reference: Reference, limit: u16) -> Decisi
 {
     match selection {
         Selection::Lacking(x) => Decision::Refused(x),
-        Selection::Chosen(chosen) => Decision::Result(urban::outcome_of(chosen, reference, limit)),
+        Selection::Chosen(chosen) => Decision::Result(outcome::outcome_of(
+            chosen,
+            reference,
+            limit,
+        )),
     }
 }
 
@@ -92,7 +82,7 @@ fn decide_whole(sheet: &[u8], v: Vehicle, z: Closing) -> Decision
         return Decision::Refused(Refusal::NoRun);
     }
     let background = valid::background(v.background, z.background);
-    let table = session::table_of(sheet, background, v.rated_speed, path_of(v));
+    let table = session::table_of(sheet, background, v.rated_speed, vehicle::path_of(v));
     let lacking = table.lacking;
     if lacking < 16 {
         return Decision::Refused(Refusal::NoWindow((lacking + 1) as u8));

@@ -13,7 +13,8 @@ use Rattle.acceleration.specs.Acceleration.{kOf}
 use Rattle.weighing.specs.declared.Reference.{Reference}
 use Rattle.urban.specs.declared.LUrban.{LUrban}
 use Rattle.weighing.specs.Weighing.{weighedLevel, basisOf}
-use Rattle.urban.specs.Urban.{partPower, lUrbanOf, outcomeOf}
+use Rattle.urban.specs.Urban.{partPower, lUrbanOf}
+use Rattle.outcome.specs.Outcome.{outcomeOf}
 use Rattle.demand.specs.Figure.{Gear, Gears, one, pair, aPrime}
 use Rattle.demand.specs.Demand.{chosenOf, reported}
 use Rattle.weighing.proofs.Weights.{on-line}

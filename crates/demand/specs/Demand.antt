@@ -6,7 +6,7 @@ use Rattle.acceleration.specs.Acceleration.{kOf}
 use Rattle.weighing.specs.declared.Reference.{Reference}
 use Rattle.weighing.specs.declared.Chosen.{Chosen}
 use Rattle.weighing.specs.declared.Chosen.the-variants.{One, Pair}
-use Rattle.urban.specs.Urban.{outcomeOf}
+use Rattle.outcome.specs.Outcome.{outcomeOf}
 use Rattle.demand.specs.Fractions.{Frac, _over_, _⊕_, _⊗_, _≼_, apart}
 use Rattle.demand.specs.Figure.{Gear, Gears, one, pair, figure, Dk, Dp}
 

@@ -2,10 +2,10 @@
 use four::Four;
 use four::ValidRun;
 use gears::Gear;
-use level::Side;
 use libc::STDOUT_FILENO;
 use reading::Reading;
 use rules::Choice;
+use side::Side;
 use units::Hundredths;
 use units::Tenths;
 use weighing::Reference;
@@ -27,7 +27,7 @@ fn two(text: &[u8], m: u64, n: u64) {
 
 // The corrected level, in tenths, of a level over a background in tenths.
 fn side(text: &[u8], x: f32, background: u16) {
-    match level::side_of(Reading::Level(x), Tenths(background)) {
+    match side::side_of(Reading::Level(x), Tenths(background)) {
         Side::Corrected(t) => one(text, t.0 as u64),
         Side::NotValid => {
             io::write_all(STDOUT_FILENO, text);

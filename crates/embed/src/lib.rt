@@ -6,8 +6,8 @@ ghost use mathlib.Core.List.{[]};
 ghost use lib.Dec.{ltb};
 ghost use lib.ListN.{length, take, replicate};
 ghost use Rattle.units.specs.Bytes.{number};
-ghost use Rattle.evaluation.specs.Answer.{answerOf, bufferOf};
-ghost use Rattle.evaluation.specs.Demand.{CloseTo, RisesFrom};
+ghost use Rattle.promises.specs.Answer.{answerOf, bufferOf};
+ghost use Rattle.promises.specs.Demand.{CloseTo, RisesFrom};
 ghost use Rattle.line.specs.Line.{lineOf};
 ghost use Rattle.embed.specs.Calls.{codeOf, whereOf};
 

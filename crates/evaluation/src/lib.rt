@@ -4,8 +4,8 @@ use refusal::Answer;
 use refusal::Refusal;
 ghost use mathlib.Core.Path.{_≡_};
 ghost use lib.ListN.{length};
-ghost use Rattle.evaluation.specs.Answer.{answerOf, bufferOf};
-ghost use Rattle.evaluation.specs.Demand.{CloseTo, RisesFrom};
+ghost use Rattle.promises.specs.Answer.{answerOf, bufferOf};
+ghost use Rattle.promises.specs.Demand.{CloseTo, RisesFrom};
 ghost use Rattle.units.specs.Bytes.{number};
 
 // The evaluation of a sheet: on success the result stands in the first 32 bytes of `result`; on a refusal no byte changes.

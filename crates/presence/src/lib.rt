@@ -4,7 +4,7 @@ ghost use mathlib.Core.Path.{_≡_};
 ghost use mathlib.Core.Bool.{false};
 ghost use Prim.Native.Nat.{ℕ, _≤_};
 ghost use lib.ListN.{getD};
-ghost use Rattle.run.specs.Runs.{RunsGood};
+ghost use Rattle.run_record.specs.Runs.{RunsGood};
 ghost use Rattle.presence.specs.Presence.{anyRun, hasRun};
 
 // Whether a sheet has an acceleration run.

@@ -6,10 +6,8 @@ use native.Mathlib.Nat.{le-of-suc-le-suc, not-suc-le-zero}
 use native.Mathlib.Omega.{arith}
 use lib.ListN.{length, getD}
 use Rattle.units.specs.Bytes.{number}
-use Rattle.level.specs.declared.Side.{Side}
-use Rattle.level.specs.declared.Side.the-variants as side
 use Rattle.records.specs.Records.{records, recordAt}
-use Rattle.run.proofs.Layouts.{run-ranges}
+use Rattle.run_record.proofs.Layouts.{run-ranges}
 use Rattle.four.specs.declared.ValidRun.{ValidRun}
 use Rattle.four.specs.declared.Four.{Four}
 use Rattle.window.specs.declared.Window.the-variants.{Runs}
@@ -19,7 +17,7 @@ use Rattle.valid.specs.declared.Validity.the-variants.{Valid, NotValid}
 use Rattle.four.specs.Four.{Each}
 use Rattle.valid.specs.Valid.{Rising, candidateOf}
 use Rattle.rest.specs.Rest.{ahead, restFrom, restOf}
-use Rattle.run.specs.Runs.{RunsGood}
+use Rattle.run_record.specs.Runs.{RunsGood}
 use Rattle.window.specs.Windows.{nobody, fourAt, firstWindow}
 use Rattle.window.proofs.Searches.{first-is}
 

@@ -12,7 +12,7 @@ use Rattle.units.proofs.Lowest.{found}
 use Rattle.units.proofs.Gathering.{gather}
 use Rattle.records.specs.Records.{recordAt}
 use Rattle.records.specs.Fields.{byte}
-use Rattle.run.specs.Layout.{runIn}
+use Rattle.run.specs.Run.{runIn}
 use Rattle.four.specs.declared.ValidRun.{ValidRun}
 use Rattle.four.specs.declared.Four.{Four}
 use Rattle.window.specs.declared.Window.the-variants.{Runs, Nothing}

@@ -9,7 +9,7 @@ ghost use Prim.Native.Nat.{_-_, _≤_};
 ghost use lib.ListN.{take, drop};
 ghost use Rattle.units.specs.Lowest.{lowest};
 ghost use Rattle.records.specs.Records.{records};
-ghost use Rattle.run.specs.Runs.{RunsGood};
+ghost use Rattle.run_record.specs.Runs.{RunsGood};
 ghost use Rattle.valid.specs.Valid.{ofGear};
 ghost use Rattle.window.specs.Windows.{firstWindow};
 ghost use Rattle.rest.specs.Rest.{restOf};
@@ -64,7 +64,7 @@ pub fn window_in(sheet: &[u8], background: Tenths, kind: u8, gear: u8) -> Window
             count += 1;
         }
         if count == 16 {
-            if let Window::Runs(f) = window::window_of(runs, 16) {
+            if let Window::Runs(f) = search::window_of(runs, 16) {
                 return Window::Runs(f);
             }
             runs = carry(runs);
@@ -72,5 +72,5 @@ pub fn window_in(sheet: &[u8], background: Tenths, kind: u8, gear: u8) -> Window
         }
         i = next_of(sheet, gear, i + 1, last);
     }
-    window::window_of(runs, count)
+    search::window_of(runs, count)
 }

@@ -8,7 +8,7 @@ use native.Mathlib.Omega.{arith}
 use lib.Dec.{eqb}
 use lib.ListN.{length}
 use Rattle.units.specs.Bytes.{number}
-use Rattle.urban.specs.declared.Outcome.{Outcome}
+use Rattle.outcome.specs.declared.Outcome.{Outcome}
 use Rattle.result.specs.Result.{lowByte, highByte, flag, resultBytes, outcomeIn}
 
 -- the two bytes of a number, low byte first, are the number

@@ -5,7 +5,7 @@ use mathlib.Core.List.{List, [], _∷_}
 use lib.Dec.{eqb}
 use lib.ListN.{getD}
 use Rattle.units.specs.Bytes.{number}
-use Rattle.urban.specs.declared.Outcome.{Outcome}
+use Rattle.outcome.specs.declared.Outcome.{Outcome}
 
 abbrev pub lowByte : ℕ → ℕ
 lowByte n = n % 256

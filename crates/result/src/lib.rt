@@ -1,7 +1,7 @@
 // The result record: written from the fields of an outcome, and read back.
+use outcome::Outcome;
 use units::Hundredths;
 use units::Tenths;
-use urban::Outcome;
 ghost use mathlib.Core.Path.{_≡_};
 ghost use mathlib.Core.List.{_++_};
 ghost use Prim.Native.Nat.{_≤_};

@@ -11,7 +11,6 @@ use borrow.Author.Tests.{eqb-true, eqb-false, leb-true, leb-false, ltb-true, ltb
 use Rattle.units.proofs.Lowest.{lowest-most}
 use Rattle.units.proofs.Tests.{chosen, neither}
 use Rattle.gears.specs.declared.Gear.{Gear}
-use Rattle.rules.specs.declared.Choice.{Choice}
 use Rattle.rules.specs.declared.Choice.the-variants.{One, Pair, Nothing}
 use Rattle.gears.specs.Remaining.{a}
 use Rattle.nearest.specs.Nearest.{apart, near, nearest}

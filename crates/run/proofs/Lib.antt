@@ -1,1 +1,1 @@
-pub mod Layouts
+pub mod Readings

@@ -13,7 +13,7 @@ use window::Window;
 ghost use mathlib.Core.Path.{_≡_};
 ghost use Prim.Native.Nat.{_≤_, _<_};
 ghost use lib.ListN.{take};
-ghost use Rattle.run.specs.Runs.{RunsGood};
+ghost use Rattle.run_record.specs.Runs.{RunsGood};
 ghost use Rattle.state.specs.State.{windowOf};
 ghost use Rattle.demand.specs.Figure.{pair};
 ghost use Rattle.selection.specs.Selection.{gears, weighedGear, selectOne, selectPair, selectedIn, selectionBy};

@@ -6,7 +6,7 @@ use state::State;
 use units::Hundredths;
 use units::Tenths;
 ghost use Prim.Native.Nat.{_≤_};
-ghost use Rattle.run.specs.Runs.{RunsGood};
+ghost use Rattle.run_record.specs.Runs.{RunsGood};
 ghost use Rattle.state.specs.State.{trackOf};
 ghost use Rattle.session.specs.Table.{Tabled};
 

@@ -1,2 +1,1 @@
 pub mod Examinations
-mod Examples

@@ -9,8 +9,9 @@ use Rattle.sheet.specs.declared.Examination.{Examination}
 use Rattle.sheet.specs.declared.Examination.the-variants.{Whole, WrongSize, NoVehicle, NoClosing, BrokenRecord}
 use Rattle.records.specs.Records.{records, recordAt}
 use Rattle.records.specs.Fields.{byte, word}
-use Rattle.records.specs.Layout.{vehicleGood, vehicleIn, closingGood, closingIn}
-use Rattle.run.specs.Layout.{runGood}
+use Rattle.vehicle.specs.Vehicle.{vehicleGood, vehicleIn}
+use Rattle.closing.specs.Closing.{closingGood, closingIn}
+use Rattle.run_record.specs.Layout.{runGood}
 
 -- the number of the last record
 abbrev pub lastOf : List ℕ → ℕ

@@ -1,7 +1,7 @@
 // A session's sheet: any byte string examined as one, and the refusals that come before any evaluation.
-use records::Closing;
+use closing::Closing;
 use records::Record;
-use records::Vehicle;
+use vehicle::Vehicle;
 ghost use mathlib.Core.Path.{_≡_};
 ghost use Prim.Native.Nat.{_<_};
 ghost use Rattle.records.specs.Records.{records};
@@ -52,12 +52,12 @@ fn good_at(sheet: &[u8], number: usize, last: usize) -> bool
 {
     let r = Record::at(sheet, number);
     if number == 0 {
-        return records::vehicle_good(r);
+        return vehicle::vehicle_good(r);
     }
     if number == last {
-        return records::closing_good(r);
+        return closing::closing_good(r);
     }
-    run::run_good(r)
+    run_record::run_good(r)
 }
 
 fn lowest_broken(sheet: &[u8], count: usize) -> usize
@@ -94,7 +94,7 @@ pub fn examine(sheet: &[u8]) -> Examination
     if broken < count {
         return Examination::BrokenRecord(broken);
     }
-    let vehicle = records::vehicle_in(Record::at(sheet, 0));
-    let closing = records::closing_in(Record::at(sheet, count - 1));
+    let vehicle = vehicle::vehicle_in(Record::at(sheet, 0));
+    let closing = closing::closing_in(Record::at(sheet, count - 1));
     Examination::Whole(vehicle, closing)
 }

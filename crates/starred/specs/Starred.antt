@@ -5,10 +5,10 @@ use Prim.Native.Nat.{ℕ, zero, suc, _+_, _%_, _/_}
 use mathlib.Core.List.{List, [], _∷_, _++_, map}
 use lib.Ieee.{binary32, ofBits}
 use lib.ListN.{replicate}
-use Rattle.level.specs.declared.Side.{Side}
-use Rattle.level.specs.declared.Side.the-variants as side
+use Rattle.side.specs.declared.Side.{Side}
+use Rattle.side.specs.declared.Side.the-variants as side
 use Rattle.level.specs.Level.{tenthsOf}
-use Rattle.level.specs.Correction.{correctedSide}
+use Rattle.side.specs.Correction.{correctedSide}
 use Rattle.reference.specs.Reference.{aUrban, aRef}
 use Rattle.four.specs.declared.ValidRun.{ValidRun}
 use Rattle.window.specs.Windows.{firstWindow}
@@ -23,7 +23,7 @@ use Rattle.decision.specs.declared.Decision.the-variants as decision
 use Rattle.refusal.specs.Refusal.{numberOf, placeOf}
 use Rattle.result.specs.Result.{fieldsOf}
 use Rattle.decision.specs.Decision.{decisionOf}
-use Rattle.evaluation.specs.Demand.{numbersIn}
+use Rattle.promises.specs.Demand.{numbersIn}
 
 pub data Example : Type 0 where
   -- the pattern of a float; its tenths

@@ -7,7 +7,7 @@ use units::Tenths;
 use window::Window;
 ghost use mathlib.Core.Path.{_≡_};
 ghost use Prim.Native.Nat.{_≤_};
-ghost use Rattle.run.specs.Runs.{RunsGood};
+ghost use Rattle.run_record.specs.Runs.{RunsGood};
 ghost use Rattle.four.specs.Four.{Each};
 ghost use Rattle.valid.specs.Valid.{Rising};
 ghost use Rattle.presence.specs.Presence.{hasRun};

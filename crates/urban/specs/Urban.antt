@@ -1,13 +1,10 @@
--- kp and L_urban (document 01, "L_urban", first paragraph), and the fields of the result.
+-- kp and L_urban (document 01, "L_urban", first paragraph).
 use Prim.Native.Nat.{ℕ, _-_, _*_}
 use mathlib.Core.Bool.{cond}
-use lib.Dec.{ltb, leb}
+use lib.Dec.{ltb}
 use Rattle.units.specs.Rounding.{rounded}
 use Rattle.weighing.specs.declared.Reference.{Reference}
-use Rattle.weighing.specs.declared.Chosen.{Chosen}
 use Rattle.urban.specs.declared.LUrban.{LUrban}
-use Rattle.urban.specs.declared.Outcome.{Outcome}
-use Rattle.weighing.specs.Weighing.{basisOf}
 
 -- kp = 1 − a_urban / a', which is (a' − a_urban) / a', rounded as a whole to hundredths; 0 for an a' below a_urban
 unfoldable pub partPower : ℕ → ℕ → ℕ
@@ -21,24 +18,3 @@ lUrbanOf r a w c =
     cond (ltb (r .pmr) 250) (record { kp = 0; level = rounded w 10 })
     (cond (ltb w c) (record { kp = 100; level = rounded c 10 })
     (record { kp = kp; level = rounded (100 * w - kp * (w - c)) 1000 }))
-
--- the fields of the result; it passes if L_urban is not above the limit
-unfoldable pub outcomeOf : Chosen → Reference → ℕ → Outcome
-outcomeOf chosen r limit =
-    let b = basisOf chosen r in
-    let l = lUrbanOf r (b .a .0) (b .w .0) (b .c .0) in
-    record {
-      rule = b .rule;
-      i = b .i;
-      j = b .j;
-      k = b .k;
-      kp = l .kp;
-      pass = leb (l .level) limit;
-      w = b .w;
-      c = b .c;
-      «l_urban» = l .level;
-      «a_urban» = r .«a_urban»;
-      «a_ref» = r .«a_ref»;
-      pmr = r .pmr;
-      a = b .a;
-    }

@@ -9,13 +9,13 @@ use lib.Ieee.{binary32, ofBits}
 use borrow.Author.Tests.{eqb-true}
 use Rattle.units.specs.Bytes.{number}
 use Rattle.units.proofs.Tests.{chosen, both}
-use Rattle.level.specs.declared.Side.{Side}
-use Rattle.level.specs.declared.Side.the-variants as side
-use Rattle.level.specs.Correction.{sideOf}
+use Rattle.side.specs.declared.Side.{Side}
+use Rattle.side.specs.declared.Side.the-variants as side
+use Rattle.side.specs.Correction.{sideOf}
 use Rattle.run.specs.declared.Run.{Run}
 use Rattle.records.specs.Records.{recordAt}
 use Rattle.records.specs.Fields.{byte, word}
-use Rattle.run.specs.Layout.{runIn, readingFrom}
+use Rattle.run.specs.Run.{runIn, readingFrom}
 use Rattle.four.specs.declared.ValidRun.{ValidRun}
 use Rattle.valid.specs.declared.Validity.{Validity}
 use Rattle.valid.specs.declared.Validity.the-variants.{Valid, NotValid}

@@ -2,11 +2,11 @@
 use mathlib.Core.Path.{_≡_, refl}
 use mathlib.Core.Bool.{true, false}
 use Prim.Native.Nat.{ℕ}
-use Rattle.level.specs.declared.Side.{Side}
-use Rattle.level.specs.declared.Side.the-variants as side
-use Rattle.level.specs.Correction.{sideOf}
+use Rattle.side.specs.declared.Side.{Side}
+use Rattle.side.specs.declared.Side.the-variants as side
+use Rattle.side.specs.Correction.{sideOf}
 use Rattle.run.specs.declared.Run.{Run}
-use Rattle.run.specs.Layout.{readingFrom}
+use Rattle.run.specs.Run.{readingFrom}
 use Rattle.valid.specs.declared.Validity.the-variants.{NotValid}
 use Rattle.valid.specs.Valid.{bothSides, validOf}
 

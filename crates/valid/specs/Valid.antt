@@ -3,13 +3,13 @@ use Prim.Native.Nat.{ℕ, _≤_}
 use mathlib.Core.Bool.{Bool, cond, _&&_}
 use mathlib.Core.List.{List}
 use lib.Dec.{eqb}
-use Rattle.level.specs.declared.Side.{Side}
-use Rattle.level.specs.declared.Side.the-variants as side
-use Rattle.level.specs.Correction.{sideOf}
+use Rattle.side.specs.declared.Side.{Side}
+use Rattle.side.specs.declared.Side.the-variants as side
+use Rattle.side.specs.Correction.{sideOf}
 use Rattle.records.specs.Records.{recordAt}
 use Rattle.records.specs.Fields.{byte}
 use Rattle.run.specs.declared.Run.{Run}
-use Rattle.run.specs.Layout.{runIn, readingFrom}
+use Rattle.run.specs.Run.{runIn, readingFrom}
 use Rattle.four.specs.declared.ValidRun.{ValidRun}
 use Rattle.valid.specs.declared.Validity.{Validity}
 use Rattle.valid.specs.declared.Validity.the-variants.{Valid, NotValid}

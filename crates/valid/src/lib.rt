@@ -1,14 +1,14 @@
 // Valid runs: the background, the validity rule, and a record of a sheet as a run of a kind and a gear.
 use four::ValidRun;
-use level::Side;
 use records::Record;
 use run::Run;
+use side::Side;
 use units::Tenths;
 ghost use mathlib.Core.Path.{_≡_};
 ghost use mathlib.Core.Bool.{true};
 ghost use Prim.Native.Nat.{_<_, max};
 ghost use Rattle.records.specs.Records.{records, recordAt};
-ghost use Rattle.run.specs.Layout.{runGood};
+ghost use Rattle.run_record.specs.Layout.{runGood};
 ghost use Rattle.valid.specs.Valid.{validOf, candidateOf};
 
 pub enum Validity {
@@ -30,8 +30,8 @@ pub fn valid(run: Run, background: Tenths, number: u16) -> Validity
     if run.struck {
         return Validity::NotValid;
     }
-    let left = level::side_of(run.left_reading(), background);
-    let right = level::side_of(run.right_reading(), background);
+    let left = side::side_of(run.left_reading(), background);
+    let right = side::side_of(run.right_reading(), background);
     let Side::Corrected(l) = left else {
         return Validity::NotValid;
     };

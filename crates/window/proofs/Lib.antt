@@ -1,4 +1,3 @@
 pub mod Searches
 pub mod Parts
-mod Walking
 mod Examples

@@ -14,7 +14,7 @@ use Rattle.records.specs.Fields.{byte}
 use Rattle.records.proofs.Shown.{record-long}
 use Rattle.presence.specs.Presence.{some, accelerates, hasRun}
 use Rattle.presence.proofs.Presence.{Seen, seen-start, seen-run, seen-other, seen-end}
-use Rattle.run.proofs.Layouts.{RunRanges, run-ranges}
+use Rattle.run_record.proofs.Layouts.{RunRanges, run-ranges}
 use Rattle.presence.proofs.present.Statement.{statement}
 use Rattle.presence.proofs.present.Tie as tie
 

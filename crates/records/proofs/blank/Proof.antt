@@ -4,7 +4,7 @@ use mathlib.Core.Bool.{_&&_}
 use Prim.Native.Nat.{ℕ, _-_, _≤_}
 use native.Mathlib.Omega.{arith}
 use Rattle.records.specs.Fields.{zeros}
-use Rattle.records.proofs.Layouts.{zeros-next, zeros-end}
+use Rattle.records.proofs.Fields.{zeros-next, zeros-end}
 use Rattle.records.proofs.blank.Statement.{statement}
 use Rattle.records.proofs.blank.Tie as tie
 

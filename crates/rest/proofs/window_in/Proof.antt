@@ -17,7 +17,7 @@ use Rattle.rest.proofs.window_in.Lts as lts
 use Rattle.valid.proofs.candidate.Reads as candidate-reads
 use Rattle.rest.proofs.carry.Reads as carry-reads
 use Rattle.rest.proofs.next_of.Reads as next-of-reads
-use Rattle.window.proofs.window_of.Reads as window-of-reads
+use Rattle.search.proofs.window_of.Reads as window-of-reads
 
 abbrev Inv-loop : tie.InvT-loop
 Inv-loop sheet background kind gear last runs₀ count₀ i₀ runs count i = (length runs ≡ 16) × (count < 16) × (0 < i) × (i ≤ last) × (i ≤ 1024) × Sought sheet (background .0) kind gear last runs count i

@@ -1,6 +1,6 @@
 -- `run::reading_from` meets its contract. Assumes nothing.
 use borrow.Author.Tests.{eq-eqb, ne-eqb}
-use Rattle.run.specs.Layout.{readingFrom}
+use Rattle.run.specs.Run.{readingFrom}
 use Rattle.run.proofs.reading_from.Statement.{statement}
 use Rattle.run.proofs.reading_from.Tie as tie
 

@@ -1,6 +1,6 @@
 -- `run::run_in` meets its contract, field by field. Assumes nothing.
 use borrow.Author.Needs.{needs}
-use Rattle.run.specs.Layout.{runIn}
+use Rattle.run.specs.Run.{runIn}
 use Rattle.run.proofs.run_in.Statement.{statement}
 use Rattle.run.proofs.run_in.Tie as tie
 

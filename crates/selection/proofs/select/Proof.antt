@@ -7,7 +7,6 @@ use lib.ListN.{length, take, length-take}
 use Rattle.rules.specs.declared.Choice.{Choice}
 use Rattle.gears.specs.Remaining.{a}
 use Rattle.rules.specs.Rules.{Selectable, Paired}
-use Rattle.window.specs.Windows as windows
 use Rattle.selection.specs.Selection.{selectedIn, selectionBy, selectOne, selectPair}
 use Rattle.gears.proofs.Places.{a-taken}
 use Rattle.gears.specs.declared.Gear.{Gear}

@@ -2,7 +2,6 @@
 use borrow.Author.Needs.{needs}
 use mathlib.Core.Path.{sym, ap, _∙_}
 use Rattle.window.specs.declared.Window.{Window}
-use Rattle.window.specs.declared.Window.the-variants as window
 use Rattle.state.specs.State.{windowOf}
 use Rattle.selection.specs.Selection.{selectOne, selectionBy}
 use Rattle.selection.proofs.Selections.{one-chosen}

@@ -8,7 +8,8 @@ use native.Mathlib.Omega.{arith}
 use lib.ListN.{length}
 use Rattle.sheet.specs.declared.Examination.the-variants.{Whole, BrokenRecord}
 use Rattle.records.specs.Records.{records}
-use Rattle.records.specs.Layout.{vehicleIn, closingIn}
+use Rattle.vehicle.specs.Vehicle.{vehicleIn}
+use Rattle.closing.specs.Closing.{closingIn}
 use Rattle.sheet.specs.Examining.{lastOf, wrongSize, noVehicle, noClosing}
 use Rattle.records.proofs.Shown.{record-long}
 use Rattle.sheet.proofs.Examinations.{Sized, sized, row-2, row-3, row-4, row-5, no-row}

@@ -4,9 +4,10 @@ use mathlib.Core.Path.{_≡_, ap, _∙_}
 use native.Mathlib.Omega.{arith}
 use lib.ListN.{length}
 use Rattle.records.proofs.Shown.{record-long}
-use Rattle.run.proofs.Layouts.{left-no-nan, right-no-nan}
+use Rattle.run_record.proofs.Layouts.{left-no-nan, right-no-nan}
 use Rattle.valid.specs.Valid.{candidateOf, validOf}
-use Rattle.run.specs.Layout.{runGood, runIn}
+use Rattle.run_record.specs.Layout.{runGood}
+use Rattle.run.specs.Run.{runIn}
 use Rattle.run.specs.declared.Run.{Run}
 use Rattle.valid.proofs.candidate.Statement.{statement}
 use Rattle.valid.proofs.candidate.Tie as tie

@@ -1,9 +1,8 @@
 -- `valid::valid` meets its contract: a run that is not struck goes by its two sides. Assumes nothing.
 use borrow.Author.Needs.{needs}
 use mathlib.Core.Path.{_≡_, sym, ap, ap₂, _∙_}
-use Rattle.level.specs.declared.Side.the-variants as side
 use Rattle.reading.specs.declared.Reading.{Reading}
-use Rattle.level.specs.Correction.{sideOf}
+use Rattle.side.specs.Correction.{sideOf}
 use Rattle.valid.specs.Valid.{bothSides, validOf}
 use Rattle.valid.proofs.Validities.{struck-out, by-sides, left-out, right-out}
 use Rattle.valid.proofs.valid.Statement.{statement}

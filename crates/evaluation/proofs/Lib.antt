@@ -1,4 +1,0 @@
-pub mod Measured
-pub mod Accepted
-pub mod Alike
-pub mod Rising

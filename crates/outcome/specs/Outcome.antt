@@ -1,0 +1,29 @@
+-- The fields of the result (document 01, end of "L_urban").
+use Prim.Native.Nat.{ℕ}
+use lib.Dec.{leb}
+use Rattle.weighing.specs.declared.Reference.{Reference}
+use Rattle.weighing.specs.declared.Chosen.{Chosen}
+use Rattle.weighing.specs.Weighing.{basisOf}
+use Rattle.urban.specs.Urban.{lUrbanOf}
+use Rattle.outcome.specs.declared.Outcome.{Outcome}
+
+-- it passes if L_urban is not above the limit
+unfoldable pub outcomeOf : Chosen → Reference → ℕ → Outcome
+outcomeOf chosen r limit =
+    let b = basisOf chosen r in
+    let l = lUrbanOf r (b .a .0) (b .w .0) (b .c .0) in
+    record {
+      rule = b .rule;
+      i = b .i;
+      j = b .j;
+      k = b .k;
+      kp = l .kp;
+      pass = leb (l .level) limit;
+      w = b .w;
+      c = b .c;
+      «l_urban» = l .level;
+      «a_urban» = r .«a_urban»;
+      «a_ref» = r .«a_ref»;
+      pmr = r .pmr;
+      a = b .a;
+    }
