@@ -9,7 +9,8 @@ pub const RESULT_BYTES: usize = 32;
 const LINE_BYTES: usize = 276;
 
 extern "C" {
-    fn ruthimpo_evaluate(
+    /// The evaluation as C has it: 0 or the number of the refusal, and its place.
+    pub fn ruthimpo_evaluate(
         sheet: *const u8,
         sheet_bytes: usize,
         result: *mut u8,

@@ -1,10 +1,11 @@
 //! The time of the proved evaluation against two in Rust, sheet by sheet, in one run: the reckoning, which reads the
-//! runs into vectors, and the one that goes over the records once.
+//! runs into vectors, and the one that goes over the records once. All three are called by C's interface.
 
 use speed::sessions::{session, Place};
 use speed::sheets::{put, RECORD};
 use speed::straight;
 use std::hint::black_box;
+use std::slice;
 use std::time::{Duration, Instant};
 
 const ROUNDS: usize = 41;
@@ -12,8 +13,8 @@ const BATCH: usize = 32;
 /// The time of a round, in nanoseconds.
 const ROUND: u128 = 1_000_000;
 
-/// An evaluation: 0 or the number of the refusal.
-type Evaluation = fn(&[u8], &mut [u8]) -> u32;
+/// An evaluation as C has it: 0 or the number of the refusal, and its place.
+type Evaluation = unsafe extern "C" fn(*const u8, usize, *mut u8, usize, *mut usize) -> u32;
 
 struct Row {
     name: String,
@@ -53,26 +54,43 @@ fn time_of(evaluation: Evaluation, sheet: &[u8], calls: usize) -> f64 {
         let mut buffers = [[0; 32]; BATCH];
         let began = Instant::now();
         for buffer in &mut buffers {
-            black_box(evaluation(black_box(sheet), black_box(buffer)));
+            black_box(call(evaluation, black_box(sheet), black_box(buffer)));
         }
         spent += began.elapsed();
     }
     spent.as_nanos() as f64 / (calls.div_ceil(BATCH) * BATCH) as f64
 }
 
-fn proved(sheet: &[u8], result: &mut [u8]) -> u32 {
-    ruthimpo::evaluate(sheet, result).map_or_else(|refusal| refusal.number, |()| 0)
+/// One in Rust, by C's interface.
+macro_rules! as_c {
+    ($name:ident, $evaluate:path) => {
+        unsafe extern "C" fn $name(
+            sheet: *const u8,
+            sheet_bytes: usize,
+            result: *mut u8,
+            result_bytes: usize,
+            place: *mut usize,
+        ) -> u32 {
+            let sheet = slice::from_raw_parts(sheet, sheet_bytes);
+            let result = slice::from_raw_parts_mut(result, result_bytes);
+            let (number, at) = $evaluate(sheet, result).err().unwrap_or((0, 0));
+            *place = at as usize;
+            number
+        }
+    };
 }
 
-fn vectors(sheet: &[u8], result: &mut [u8]) -> u32 {
-    reckoning::evaluate(sheet, result).map_or_else(|(number, _)| number, |()| 0)
-}
+as_c!(vectors, reckoning::evaluate);
+as_c!(one_pass, straight::evaluate);
 
-fn one_pass(sheet: &[u8], result: &mut [u8]) -> u32 {
-    straight::evaluate(sheet, result).map_or_else(|(number, _)| number, |()| 0)
-}
+const EVALUATIONS: [Evaluation; 3] = [ruthimpo::ruthimpo_evaluate, vectors, one_pass];
 
-const EVALUATIONS: [Evaluation; 3] = [proved, vectors, one_pass];
+fn call(evaluation: Evaluation, sheet: &[u8], result: &mut [u8]) -> (u32, usize) {
+    let mut place = 0;
+    // SAFETY: the pointers and lengths are those of live slices, and the borrow checker keeps the three places apart.
+    let number = unsafe { evaluation(sheet.as_ptr(), sheet.len(), result.as_mut_ptr(), result.len(), &mut place) };
+    (number, place)
+}
 
 fn median(mut times: Vec<f64>) -> f64 {
     times.sort_by(f64::total_cmp);
@@ -93,12 +111,12 @@ fn measured(sheet: &[u8]) -> ([f64; 3], [f64; 2]) {
 fn answer_of(sheet: &[u8]) -> String {
     let answers = EVALUATIONS.map(|evaluation| {
         let mut result = [0; 32];
-        (evaluation(sheet, &mut result), result)
+        (call(evaluation, sheet, &mut result), result)
     });
     assert!(answers.iter().all(|answer| *answer == answers[0]), "the evaluations differ");
     match answers[0] {
-        (0, result) => format!("rule {}", result[0]),
-        (number, _) => format!("refusal {number}"),
+        ((0, _), result) => format!("rule {}", result[0]),
+        ((number, _), _) => format!("refusal {number}"),
     }
 }
 
