@@ -41,8 +41,8 @@ pub fn byte_within(r: &[u8], at: usize, low: u8, high: u8) -> bool
     requires { ⌜ at < length (now r) ⌝ }
     ensures { λ ok. ⌜ ok ≡ within low high (byte (now (r .entry)) at) ⌝ }
 {
-    let x = r[at];
-    (low <= x) & (x <= high)
+    let b = r[at];
+    (low <= b) & (b <= high)
 }
 
 // Whether a 16-bit number is from `low` to `high`.
@@ -50,8 +50,8 @@ pub fn word_within(r: &[u8], at: usize, low: u16, high: u16) -> bool
     requires { ⌜ at + 2 ≤ length (now r) ⌝ }
     ensures { λ ok. ⌜ ok ≡ within low high (word (now (r .entry)) at) ⌝ }
 {
-    let x = units::number16(r, at);
-    (low <= x) & (x <= high)
+    let w = units::number16(r, at);
+    (low <= w) & (w <= high)
 }
 
 // Whether the bytes from `at` to before `end` are zero. All are read, so that the loop has no branch in it.
