@@ -5,14 +5,6 @@ use native.Mathlib.Omega.{arith}
 use lib.Seq.{length-take-le}
 use Rattle.evaluate.proofs.main.Statement.{statement}
 use Rattle.evaluate.proofs.main.Tie as tie
-use Rattle.evaluate.proofs.main.Reads as reads
-use Rattle.evaluate.proofs.main.Lts as lts
-use Rattle.evaluate.proofs.is_at_end.Reads as is-at-end-reads
-use Rattle.evaluation.proofs.evaluate.Reads as evaluate-reads
-use Rattle.io.proofs.read_full.Reads as read-full-reads
-use Rattle.io.proofs.write_all.Reads as write-all-reads
-use Rattle.line.proofs.line.Reads as line-reads
-use Rattle.os.proofs.fail.Reads as fail-reads
 
 slice-aggregate-read-full : tie.Need-slice-aggregate-read-full
 slice-aggregate-read-full c = search needs
