@@ -53,18 +53,18 @@ abbrev pub Close : Type 0
 Close = (r : Reference) (g : Gears) (limit : ℕ) → 0 < r .«a_urban» .0 → Straddled r g → apart (reported r g limit over 1) (figure r g) ≼ bound r g
 
 -- the same acceleration, and neither sum lower in the second
-pub record NoneLower (g h : Gear) : Type 0 where
+pub record GearNotLower (g h : Gear) : Type 0 where
   pub a : g .a ≡ h .a
   pub w : g .w ≤ h .w
   pub c : g .c ≤ h .c
 
 -- the same of one gear, or of gears i and j; the rules and the gears' numbers may differ
-abbrev pub AllNoneLower : Gears → Gears → Type 0
-AllNoneLower (one rule g) (one rule′ h) = NoneLower g h
-AllNoneLower (pair rule i j) (pair rule′ i′ j′) = NoneLower i i′ × NoneLower j j′
-AllNoneLower (one rule g) (pair rule′ i j) = ⊥
-AllNoneLower (pair rule i j) (one rule′ g) = ⊥
+abbrev pub GearsNotLower : Gears → Gears → Type 0
+GearsNotLower (one rule g) (one rule′ h) = GearNotLower g h
+GearsNotLower (pair rule i j) (pair rule′ i′ j′) = GearNotLower i i′ × GearNotLower j j′
+GearsNotLower (one rule g) (pair rule′ i j) = ⊥
+GearsNotLower (pair rule i j) (one rule′ g) = ⊥
 
 -- Rising: where no sum is lower in the second, L_urban is not lower either.
 abbrev pub Rising : Type 0
-Rising = (r : Reference) (g h : Gears) (limit limit′ : ℕ) → Straddled r g → AllNoneLower g h → reported r g limit ≤ reported r h limit′
+Rising = (r : Reference) (g h : Gears) (limit limit′ : ℕ) → Straddled r g → GearsNotLower g h → reported r g limit ≤ reported r h limit′

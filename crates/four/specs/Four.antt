@@ -29,5 +29,5 @@ largerSum f =
     max (f .a .left .0 + f .b .left .0 + f .c .left .0 + f .d .left .0)
     (f .a .right .0 + f .b .right .0 + f .c .right .0 + f .d .right .0)
 
-unfoldable pub levelOf : Four → ℕ
-levelOf f = rounded (largerSum f) 4
+unfoldable pub conditionLevel : Four → ℕ
+conditionLevel f = rounded (largerSum f) 4

@@ -2,7 +2,7 @@
 use units::Tenths;
 ghost use mathlib.Core.Path.{_≡_};
 ghost use Prim.Native.Nat.{_+_, _≤_, max, min};
-ghost use Rattle.four.specs.Four.{spanned, fitting, levelOf};
+ghost use Rattle.four.specs.Four.{spanned, fitting, conditionLevel};
 
 // A run that counts, with its corrected levels.
 pub struct ValidRun {
@@ -69,7 +69,7 @@ fn larger(a: u32, b: u32) -> u32
 
 // The level of a condition: the larger of the two sides' means, rounded to a tenth.
 pub fn condition_level(f: Four) -> Tenths
-    ensures { λ r. ⌜ r .0 ≡ levelOf f ⌝ }
+    ensures { λ r. ⌜ r .0 ≡ conditionLevel f ⌝ }
 {
     let left = sum(f.a.left.0, f.b.left.0, f.c.left.0, f.d.left.0);
     let right = sum(f.a.right.0, f.b.right.0, f.c.right.0, f.d.right.0);

@@ -6,7 +6,7 @@ use native.Mathlib.Omega.{arith}
 use lib.ListN.{length, getD, take}
 use lib.Seq.{getD-take, length-take-le}
 use Rattle.gears.specs.declared.Gear.{Gear}
-use Rattle.gears.specs.Remaining.{nobody, a}
+use Rattle.gears.specs.Remaining.{noGear, a}
 
 -- the first `count` of sixteen gears
 pub counted : (gears : List Gear) (count : ℕ) → length gears ≡ 16 → count ≤ 16 → length (take count gears) ≡ count
@@ -17,5 +17,5 @@ abbrev pub read : List Gear → ℕ → ℕ
 read gears p = getD gears p (record { number = 0; acceleration = record { 0 = 0 } }) .acceleration .0
 
 pub a-taken : (gears : List Gear) (count p : ℕ) → p < count → a (take count gears) p ≡ read gears p
-unfolding a nobody
-a-taken gears count p h = ap (λ (g : Gear). g .acceleration .0) (getD-take count gears p nobody h)
+unfolding a noGear
+a-taken gears count p h = ap (λ (g : Gear). g .acceleration .0) (getD-take count gears p noGear h)

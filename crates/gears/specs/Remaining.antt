@@ -8,12 +8,12 @@ use Rattle.units.specs.Lowest.{lowest}
 use Rattle.gears.specs.declared.Gear.{Gear}
 
 -- what stands past the end of a list of gears
-unfoldable pub nobody : Gear
-nobody = record { number = 0; acceleration = record { 0 = 0 } }
+unfoldable pub noGear : Gear
+noGear = record { number = 0; acceleration = record { 0 = 0 } }
 
 -- the acceleration of the gear at a place
 unfoldable pub a : List Gear → ℕ → ℕ
-a gears p = getD gears p nobody .acceleration .0
+a gears p = getD gears p noGear .acceleration .0
 
 -- Refusal 8: the first place whose acceleration is not above the next one's. (The number of neighbours, if all fall.)
 unfoldable pub firstNotFalling : List Gear → ℕ

@@ -46,7 +46,7 @@ module _ (t : Track) where
   measured : (p : ℕ) (h : Four) → p < length (gearsOf t) → constant (gear p .number) ≡ window.Runs h → Measured t (weighedGear (gear p) (four p) h)
   unfolding gear four constant gearAt windowAt weighedGear
   measured p h l e =
-      let r : Remaining t (gear p) (four p) = remaining-at t remaining.nobody noFour p l in
+      let r : Remaining t (gear p) (four p) = remaining-at t remaining.noGear noFour p l in
       record { f = four p; h = h; acceleration-window = r .window-is; constant-window = e; a = r .acceleration-is; w = refl; c = refl }
 
   one : (rule p : ℕ) (w : Window) → p < length (gearsOf t) → constant (gear p .number) ≡ w → Measuring t (selectOne rule (gear p) (four p) w)

@@ -20,7 +20,7 @@ use Rattle.outcome.specs.declared.Outcome.{Outcome}
 use Rattle.weighing.specs.declared.Reference.{Reference}
 use Rattle.demand.specs.Figure.{Gears, one, pair}
 use Rattle.demand.specs.Figure as figure
-use Rattle.demand.specs.Demand.{reported, AllNoneLower}
+use Rattle.demand.specs.Demand.{reported, GearsNotLower}
 use Rattle.demand.specs.Demand as numbers
 use Rattle.demand.proofs.Rising.{rising}
 use Rattle.result.proofs.Results.{at-ten}
@@ -107,7 +107,7 @@ module _ (s s′ : List ℕ) (n : NoneLower s s′) (w : WholeSheet s (sheetVehi
           run-rising s s′ (n .only-levels) background kind gear gear′ (getD (chosenRuns s) i 0) v v′ (omega (arith, q, m .last, w .two)) (ap (candidateOf s background kind gear) q ∙ m .is) (ap (candidateOf s′ background kind gear′) q′ ∙ m′ .is) (n .none-lower i l)
 
   gear-rising :
-      (k : ℕ) (g g′ : figure.Gear) (m : Measured (sheetTrack s) g) (m′ : Measured (sheetTrack s′) g′) → GearPlaced (chosenRuns s) k (m .f) (m .h) → GearPlaced (chosenRuns s) k (m′ .f) (m′ .h) → numbers.NoneLower g g′
+      (k : ℕ) (g g′ : figure.Gear) (m : Measured (sheetTrack s) g) (m′ : Measured (sheetTrack s′) g′) → GearPlaced (chosenRuns s) k (m .f) (m .h) → GearPlaced (chosenRuns s) k (m′ .f) (m′ .h) → numbers.GearNotLower g g′
   unfolding sheetTrack trackIn
   gear-rising k g g′ m m′ p p′ =
       let over = same-background s s′ (n .only-levels) (sheetVehicle s) (closingRecord s) w in
@@ -139,7 +139,7 @@ unfolding eight
 eight-is-not-sixteen f h i j k l e = let z : _≡_ {A = ℕ} 8 16 = ap length e in omega arith
 
 module _ (s s′ : List ℕ) (n : NoneLower s s′) (w : WholeSheet s (sheetVehicle s) (closingRecord s)) where
-  gears-rising : (g h : Gears) → chosenIn s ≡ gears g → chosenIn s′ ≡ gears h → Measuring (sheetTrack s) (gears g) → Measuring (sheetTrack s′) (gears h) → AllNoneLower g h
+  gears-rising : (g h : Gears) → chosenIn s ≡ gears g → chosenIn s′ ≡ gears h → Measuring (sheetTrack s) (gears g) → Measuring (sheetTrack s′) (gears h) → GearsNotLower g h
   gears-rising (one rule g) (one rule′ h) e e′ m m′ =
       gear-rising s s′ n w 0 g h m m′ (rw (one-runs s rule g m e) (first-placed (m .f) (m .h) [])) (rw (n .same-runs ∙ one-runs s′ rule′ h m′ e′) (first-placed (m′ .f) (m′ .h) []))
   gears-rising (pair rule i j) (pair rule′ i′ j′) e e′ m m′ =

@@ -1,2 +1,2 @@
-pub mod Rests
+pub mod Seeking
 pub mod Members

@@ -15,10 +15,10 @@ use Rattle.valid.proofs.Counting.{counts}
 use Rattle.valid.specs.declared.Validity.{Validity}
 use Rattle.valid.specs.declared.Validity.the-variants.{Valid, NotValid}
 use Rattle.four.specs.Four.{Each}
-use Rattle.valid.specs.Valid.{Rising, candidateOf}
+use Rattle.valid.specs.Valid.{NotSlower, candidateOf}
 use Rattle.rest.specs.Rest.{ahead, restFrom, restOf}
 use Rattle.run_record.specs.Runs.{RunsGood}
-use Rattle.window.specs.Windows.{nobody, fourAt, firstWindow}
+use Rattle.window.specs.Windows.{noRun, fourAt, firstWindow}
 use Rattle.window.proofs.Searches.{first-is}
 
 module _ (s : List ℕ) (background kind gear : ℕ) where
@@ -28,7 +28,7 @@ module _ (s : List ℕ) (background kind gear : ℕ) where
     pub last : v .number < from + count
     pub is : candidateOf s background kind gear (v .number) ≡ Valid v
 
-  pub member : (count from k : ℕ) → k < length (restFrom s background kind gear from count) → Member from count (getD (restFrom s background kind gear from count) k nobody)
+  pub member : (count from k : ℕ) → k < length (restFrom s background kind gear from count) → Member from count (getD (restFrom s background kind gear from count) k noRun)
   unfolding restFrom
   member zero from k h = absurd (not-suc-le-zero h)
   member (suc count) from k h = by (candidateOf s background kind gear from) refl k h (member count (from + 1))
@@ -36,7 +36,7 @@ module _ (s : List ℕ) (background kind gear : ℕ) where
       later : {v : ValidRun} → Member (from + 1) count v → Member from (suc count) v
       later m = record { first = omega (arith, m .first); last = omega (arith, m .last); is = m .is }
 
-      by : (x : Validity) → candidateOf s background kind gear from ≡ x → (k : ℕ) → k < length (ahead x (restFrom s background kind gear (from + 1) count)) → ((j : ℕ) → j < length (restFrom s background kind gear (from + 1) count) → Member (from + 1) count (getD (restFrom s background kind gear (from + 1) count) j nobody)) → Member from (suc count) (getD (ahead x (restFrom s background kind gear (from + 1) count)) k nobody)
+      by : (x : Validity) → candidateOf s background kind gear from ≡ x → (k : ℕ) → k < length (ahead x (restFrom s background kind gear (from + 1) count)) → ((j : ℕ) → j < length (restFrom s background kind gear (from + 1) count) → Member (from + 1) count (getD (restFrom s background kind gear (from + 1) count) j noRun)) → Member from (suc count) (getD (ahead x (restFrom s background kind gear (from + 1) count)) k noRun)
       by (Valid v) e zero l rest = let at = counts s background kind gear from v e .at in record { first = omega arith; last = omega arith; is = ap (candidateOf s background kind gear) at ∙ e }
       by (Valid v) e (suc j) l rest = later (rest j (le-of-suc-le-suc l))
       by NotValid e j l rest = later (rest j l)
@@ -44,7 +44,7 @@ module _ (s : List ℕ) (background kind gear : ℕ) where
 -- ---- the four runs of a window
 
 -- what holds of every run of the rest holds of the window's four
-pub each-of : (P : ValidRun → Type 0) (rest : List ValidRun) (f : Four) → ((k : ℕ) → k < length rest → P (getD rest k nobody)) → firstWindow rest ≡ Runs f → Each P f
+pub each-of : (P : ValidRun → Type 0) (rest : List ValidRun) (f : Four) → ((k : ℕ) → k < length rest → P (getD rest k noRun)) → firstWindow rest ≡ Runs f → Each P f
 unfolding fourAt
 each-of P rest f all e =
     let w = first-is rest f e in
@@ -57,12 +57,12 @@ window-members s background kind gear f e = each-of (Member s background kind ge
 
 -- ---- the speeds of an acceleration run
 
-pub window-rising : (s : List ℕ) (background gear : ℕ) (f : Four) → RunsGood s → firstWindow (restOf s background 2 gear) ≡ Runs f → Each Rising f
+pub window-rising : (s : List ℕ) (background gear : ℕ) (f : Four) → RunsGood s → firstWindow (restOf s background 2 gear) ≡ Runs f → Each NotSlower f
 window-rising s background gear f good e =
     let m = window-members s background 2 gear f e in
     record { a = of (f .a) (m .a); b = of (f .b) (m .b); c = of (f .c) (m .c); d = of (f .d) (m .d) }
   where
-    of : (v : ValidRun) → Member s background 2 gear 1 (records s - 2) v → Rising v
+    of : (v : ValidRun) → Member s background 2 gear 1 (records s - 2) v → NotSlower v
     of v m =
         let c = counts s background 2 gear (v .number) v (m .is) in
         let r = run-ranges (recordAt s (v .number)) (good .good (v .number) (m .first) (omega (arith, m .last, good .two))) in

@@ -46,7 +46,7 @@ pub fn window_in(sheet: &[u8], background: Tenths, kind: u8, gear: u8) -> Window
     ensures { λ r. ⌜ r ≡ firstWindow (restOf (now (sheet .entry)) (background .0) kind gear) ⌝ }
 {
     let last = sheet.len() / Record::SIZE - 1;
-    let nobody = ValidRun {
+    let no_run = ValidRun {
         left: Tenths(0),
         right: Tenths(0),
         start: 0,
@@ -54,7 +54,7 @@ pub fn window_in(sheet: &[u8], background: Tenths, kind: u8, gear: u8) -> Window
         engine: 0,
         number: 0,
     };
-    let mut runs = [nobody; 16];
+    let mut runs = [no_run; 16];
     let mut count: usize = 0;
     let mut i = next_of(sheet, gear, 1, last);
     while i < last {

@@ -8,7 +8,7 @@ use Rattle.units.specs.Tests.{allOf}
 use Rattle.gears.specs.declared.Gear.{Gear}
 use Rattle.rules.specs.declared.Choice.{Choice}
 use Rattle.rules.specs.declared.Choice.the-variants.{One, Pair, Nothing}
-use Rattle.gears.specs.Remaining.{nobody, a, firstNotFalling}
+use Rattle.gears.specs.Remaining.{noGear, a, firstNotFalling}
 use Rattle.nearest.specs.Nearest.{apart, near, nearer, nearest}
 use Rattle.rules.specs.Rules.{pastLast, jOf, firstBelow, oneAt, acrossOf, choiceOf}
 
@@ -69,5 +69,5 @@ examples =
     ∷ []
 
 every-holds : T (allOf (map holds examples))
-unfolding same gears holds examples lowest nobody a firstNotFalling apart near nearer nearest pastLast jOf firstBelow oneAt acrossOf choiceOf
+unfolding same gears holds examples lowest noGear a firstNotFalling apart near nearer nearest pastLast jOf firstBelow oneAt acrossOf choiceOf
 every-holds = tt

@@ -30,7 +30,7 @@ use denote.Struct.Laws as LL
 use denote.Triple.Clauses.{Ended, Lasts, lasts}
 use denote.Triple.Entry.{Args}
 use Rattle.four.specs.declared.ValidRun.{ValidRun}
-use Rattle.window.specs.Windows.{nobody}
+use Rattle.window.specs.Windows.{noRun}
 use Rattle.four.proofs.ValidRun as S
 use Rattle.four.proofs.ValidRun.Laws as S′
 
@@ -94,16 +94,16 @@ module _ {M : Type 1} {𝓤 : URA M} {H : Heap 𝓤} {A : Atoms 𝓤} {K : Type 
   -- run j is copied out of a row of runs
   pub copies-run : K → {C : Calls 𝓤 H} {Λ : Loops 𝓤 H} {Q : Post 𝓤 H} {rest : Body} {k m p x lk ls lm lp lx : ℕ} (q : Share) (ys : List ValidRun) (b o j : ℕ) → Room S.the-row (length ys) → j < length ys
       → spotOf 𝓤 H E k ≡ (word, lk, 0) → spotOf 𝓤 H E 1 ≡ (slice, ls, 0) → spotOf 𝓤 H E m ≡ (word, lm, 0) → spotOf 𝓤 H E p ≡ (tyPtr, lp, 0) → spotOf 𝓤 H E x ≡ (S′.mir, lx, 0)
-      → (Ok (getD ys j nobody)
-      → Seq K W (‵ (row S.the-row q ys b o) ∷ ‵ (fat fullShare word lk 0 (vint w64 j)) ∷ ‵ (fat fullShare slice ls 0 (sliceVal (b, o) (length ys))) ∷ ‵ (fat fullShare word lm 0 (vint w64 (j * 12))) ∷ ‵ (fat fullShare tyPtr lp 0 (vptr b (index.place 12 o j))) ∷ ‵ (fat fullShare S′.mir lx 0 (S′.lowered (getD ys j nobody))) ∷ Γ) (runs C Λ E rest Q))
+      → (Ok (getD ys j noRun)
+      → Seq K W (‵ (row S.the-row q ys b o) ∷ ‵ (fat fullShare word lk 0 (vint w64 j)) ∷ ‵ (fat fullShare slice ls 0 (sliceVal (b, o) (length ys))) ∷ ‵ (fat fullShare word lm 0 (vint w64 (j * 12))) ∷ ‵ (fat fullShare tyPtr lp 0 (vptr b (index.place 12 o j))) ∷ ‵ (fat fullShare S′.mir lx 0 (S′.lowered (getD ys j noRun))) ∷ Γ) (runs C Λ E rest Q))
       → Seq K W (‵ (row S.the-row q ys b o) ∷ ‵ (fat fullShare word lk 0 (vint w64 j)) ∷ ‵ (fat fullShare slice ls 0 (sliceVal (b, o) (length ys))) ∷ ‵ (froom word lm 0) ∷ ‵ (froom tyPtr lp 0) ∷ ‵ (froom S′.mir lx 0) ∷ Γ) (runs C Λ E (reading k m p x rest) Q)
   copies-run t {lp = lp} q ys b o j gn l ek es em ep ex s =
       assigns t (bin t (load t (at-local ek (stop t)) (look t 1 refl)) (lit t tt) (record { fits = offset-fits (length ys) j (gn .1) l })) (at-local em (stop t)) (init t 3 refl (tt, record { fits = offset-fits (length ys) j (gn .1) l })) $
       assigns t (bin t (load t (at-local es (fld t refl (stop t))) (look-in t 2 (sub t 0 refl (whole t)))) (load t (at-local em (stop t)) (look t 3 refl)) tt) (at-local ep (stop t)) (init t 4 refl (tt, tt)) $
       rewrite t 4 (λ (n : ℕ). ‵ (fat fullShare tyPtr lp 0 (vptr b n))) (sym (place-is 12 o j)) refl $
-      elem-out t S.the-row (Is S.the-row) (shows 𝓤 H A S.the-row) vals (LL.tells S.the-type S′.the-laws) q ys j nobody b o l (λ g.
-      assigns t (of-opd t (load t (at-local ep (hop t (look t 6 refl) (stop t))) (look-raw t 0 refl))) (at-local ex (stop t)) (init t 7 refl (LL.lawful S.the-type S′.the-laws 𝓤 H A W .typed (getD ys j nobody) (vals (getD ys j nobody)) g .0)) $
-      elem-back t S.the-row q ys j nobody (vals (getD ys j nobody)) b o l $ s g)
+      elem-out t S.the-row (Is S.the-row) (shows 𝓤 H A S.the-row) vals (LL.tells S.the-type S′.the-laws) q ys j noRun b o l (λ g.
+      assigns t (of-opd t (load t (at-local ep (hop t (look t 6 refl) (stop t))) (look-raw t 0 refl))) (at-local ex (stop t)) (init t 7 refl (LL.lawful S.the-type S′.the-laws 𝓤 H A W .typed (getD ys j noRun) (vals (getD ys j noRun)) g .0)) $
+      elem-back t S.the-row q ys j noRun (vals (getD ys j noRun)) b o l $ s g)
 
 -- a call of a function whose contract says that it answers x has come back: `back` is what it hands back beside
 module _ {M : Type 1} {𝓤 : URA M} {H : Heap 𝓤} {A : Atoms 𝓤} {K : Type 0} {W : Given 𝓤 H A} {Γ : List (Item 𝓤)} {E : Env 𝓤 H} {C : Calls 𝓤 H} {Λ : Loops 𝓤 H} {Q : Post 𝓤 H} {d : Place} {rest : Body} where

@@ -9,7 +9,7 @@ use Rattle.units.specs.declared.Tenths.{Tenths}
 use Rattle.four.specs.declared.Four.{Four}
 use Rattle.window.specs.declared.Window.{Window}
 use Rattle.window.specs.declared.Window.the-variants as window
-use Rattle.four.specs.Four.{levelOf}
+use Rattle.four.specs.Four.{conditionLevel}
 use Rattle.gears.specs.declared.Gear.{Gear}
 use Rattle.acceleration.specs.Acceleration.{kOf}
 use Rattle.gears.specs.Remaining as remaining
@@ -30,8 +30,8 @@ use Rattle.selection.specs.declared.Selection.the-variants.{Chosen}
 use Rattle.selection.specs.Selection.{Selected, lacking, gears, noFour, gearAt, windowAt, weighedGear, selectOne, selectPair, selectedIn, selectionBy}
 use Rattle.selection.specs.Sound.{Weighable}
 
-pub one-chosen : (r : Reference) (rule : ℕ) (g : Gear) (f h : Four) (w c : Tenths) → w .0 ≡ levelOf f → c .0 ≡ levelOf h → Chosen (One (record { rule = rule; gear = g .number; acceleration = g .acceleration; w = w; c = c })) ≡ selectionBy r (selectOne rule g f (window.Runs h))
-unfolding selectionBy selectOne chosenOf weighedGear levelOf
+pub one-chosen : (r : Reference) (rule : ℕ) (g : Gear) (f h : Four) (w c : Tenths) → w .0 ≡ conditionLevel f → c .0 ≡ conditionLevel h → Chosen (One (record { rule = rule; gear = g .number; acceleration = g .acceleration; w = w; c = c })) ≡ selectionBy r (selectOne rule g f (window.Runs h))
+unfolding selectionBy selectOne chosenOf weighedGear conditionLevel
 one-chosen r rule g f h w c p q =
     ap₂ (λ (x : ℕ) (y : ℕ). Chosen (One (record { rule = rule; gear = g .number; acceleration = g .acceleration; w = record { 0 = x }; c = record { 0 = y } }))) p q
 
@@ -42,20 +42,20 @@ made rule i j k wi wj ci cj =
 alike : (rule i j : ℕ) {k wi wj ci cj k′ wi′ wj′ ci′ cj′ : ℕ} → k ≡ k′ → wi ≡ wi′ → wj ≡ wj′ → ci ≡ ci′ → cj ≡ cj′ → made rule i j k wi wj ci cj ≡ made rule i j k′ wi′ wj′ ci′ cj′
 alike rule i j e p q s t = cc
 
-pub pair-chosen : (r : Reference) (rule : ℕ) (i j : Gear) (fi hi fj hj : Four) (k : ℕ) (wi wj ci cj : Tenths) → k ≡ kOf (r .«a_ref» .0) (i .acceleration .0) (j .acceleration .0) → wi .0 ≡ levelOf fi → wj .0 ≡ levelOf fj → ci .0 ≡ levelOf hi → cj .0 ≡ levelOf hj → Chosen (Pair (record { rule = rule; i = i .number; j = j .number; k = k; «w_i» = wi; «w_j» = wj; «c_i» = ci; «c_j» = cj })) ≡ selectionBy r (gears (figure.pair rule (weighedGear i fi hi) (weighedGear j fj hj)))
-unfolding selectionBy chosenOf weighedGear levelOf kOf made
+pub pair-chosen : (r : Reference) (rule : ℕ) (i j : Gear) (fi hi fj hj : Four) (k : ℕ) (wi wj ci cj : Tenths) → k ≡ kOf (r .«a_ref» .0) (i .acceleration .0) (j .acceleration .0) → wi .0 ≡ conditionLevel fi → wj .0 ≡ conditionLevel fj → ci .0 ≡ conditionLevel hi → cj .0 ≡ conditionLevel hj → Chosen (Pair (record { rule = rule; i = i .number; j = j .number; k = k; «w_i» = wi; «w_j» = wj; «c_i» = ci; «c_j» = cj })) ≡ selectionBy r (gears (figure.pair rule (weighedGear i fi hi) (weighedGear j fj hj)))
+unfolding selectionBy chosenOf weighedGear conditionLevel kOf made
 pair-chosen r rule i j fi hi fj hj k wi wj ci cj e p q s t = alike rule (i .number) (j .number) e p q s t
 
 -- the gear and the window at a place of a table, as the code reads them
 pub gear-taken : (gs : List Gear) (count p : ℕ) → p < count → gearAt (take count gs) p ≡ getD gs p (record { number = 0; acceleration = record { 0 = 0 } })
-unfolding gearAt remaining.nobody
-gear-taken gs count p h = getD-take count gs p remaining.nobody h
+unfolding gearAt remaining.noGear
+gear-taken gs count p h = getD-take count gs p remaining.noGear h
 
 abbrev none : ValidRun
 none = record { left = record { 0 = 0 }; right = record { 0 = 0 }; start = 0; end = 0; engine = 0; number = 0 }
 
 pub window-taken : (ws : List Four) (count p : ℕ) → p < count → windowAt (take count ws) p ≡ getD ws p (record { a = none; b = none; c = none; d = none })
-unfolding windowAt noFour windows.nobody
+unfolding windowAt noFour windows.noRun
 window-taken ws count p h = getD-take count ws p noFour h
 
 -- ---- what the rules give of a selection

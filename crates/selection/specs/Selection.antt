@@ -5,7 +5,7 @@ use lib.ListN.{getD}
 use Rattle.four.specs.declared.Four.{Four}
 use Rattle.window.specs.declared.Window.{Window}
 use Rattle.window.specs.declared.Window.the-variants as window
-use Rattle.window.specs.Windows.{nobody}
+use Rattle.window.specs.Windows.{noRun}
 use Rattle.four.specs.Four.{largerSum}
 use Rattle.gears.specs.declared.Gear.{Gear}
 use Rattle.rules.specs.declared.Choice.{Choice}
@@ -21,11 +21,11 @@ use Rattle.selection.specs.declared.Selection.{Selection}
 use Rattle.selection.specs.declared.Selection.the-variants as selection
 
 unfoldable pub noFour : Four
-noFour = record { a = nobody; b = nobody; c = nobody; d = nobody }
+noFour = record { a = noRun; b = noRun; c = noRun; d = noRun }
 
 -- the gear at a place of the remaining ones, and its acceleration window
 unfoldable pub gearAt : List Gear → ℕ → Gear
-gearAt gs p = getD gs p remaining.nobody
+gearAt gs p = getD gs p remaining.noGear
 
 unfoldable pub windowAt : List Four → ℕ → Four
 windowAt ws p = getD ws p noFour

@@ -11,7 +11,7 @@ use Rattle.window.specs.declared.Window.the-variants as window
 use Rattle.gears.specs.declared.Gear.{Gear}
 use Rattle.state.specs.declared.State.{State}
 use Rattle.state.specs.declared.State.the-variants.{Remains, Dropped, NoWindow, NoRun}
-use Rattle.state.specs.State.{Track, windowOf, within, gearAcceleration, byWindow, stateOf}
+use Rattle.state.specs.State.{Track, windowOf, slowEnough, gearAcceleration, byWindow, stateOf}
 use Rattle.session.specs.Table.{Entry, ahead, remainingFrom, remaining, gearsOf, windowsOf}
 use Rattle.presence.specs.Presence.{hasRun}
 
@@ -25,7 +25,7 @@ module _ (t : Track) where
   unfolding byWindow
   from-window n window.Nothing g f p e = absurd (let z : _≡_ {A = ℕ} 0 1 = cc in omega arith)
   from-window n (window.Runs x) g f p e =
-      chosen (λ (y : State). y ≡ Remains g f → Remaining t g f) (within (t .S) x) _ _
+      chosen (λ (y : State). y ≡ Remains g f → Remaining t g f) (slowEnough (t .S) x) _ _
       (λ b e.
       let same : x ≡ f = cc in
       let gear : _≡_ {A = Gear} (record { number = n; acceleration = record { 0 = gearAcceleration (t .path) x } }) g = cc in

@@ -26,7 +26,7 @@ pub fn table_of(sheet: &[u8], background: Tenths, rated: u16, path: u16) -> Tabl
     ensures { λ r. ⌜ Tabled (trackOf (now (sheet .entry)) (background .0) rated path) r ⌝ }
 {
     let seen = presence::present(sheet);
-    let nobody = ValidRun {
+    let no_run = ValidRun {
         left: Tenths(0),
         right: Tenths(0),
         start: 0,
@@ -34,18 +34,18 @@ pub fn table_of(sheet: &[u8], background: Tenths, rated: u16, path: u16) -> Tabl
         engine: 0,
         number: 0,
     };
-    let nothing = Four {
-        a: nobody,
-        b: nobody,
-        c: nobody,
-        d: nobody,
+    let no_four = Four {
+        a: no_run,
+        b: no_run,
+        c: no_run,
+        d: no_run,
     };
-    let unnamed = Gear {
+    let no_gear = Gear {
         number: 0,
         acceleration: Hundredths(0),
     };
-    let mut gears = [unnamed; 16];
-    let mut windows = [nothing; 16];
+    let mut gears = [no_gear; 16];
+    let mut windows = [no_four; 16];
     let mut count: usize = 0;
     let mut p: usize = 0;
     while p < 16 {

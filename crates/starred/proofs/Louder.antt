@@ -29,13 +29,13 @@ use Rattle.sheet.specs.Examining.{wrongSize, noVehicle, noClosing, goodAt, lowe
 use Rattle.valid.specs.Valid.{bothSides, validOf, candidateOf}
 use Rattle.rest.specs.Rest.{restFrom, restOf}
 use Rattle.four.specs.Four.{spanned, fitting, largerSum}
-use Rattle.window.specs.Windows.{nobody as window·nobody, fourAt, firstPlace, firstWindow}
+use Rattle.window.specs.Windows.{noRun, fourAt, firstPlace, firstWindow}
 use Rattle.acceleration.specs.Acceleration.{accelerationOf, meanOf, kOf}
-use Rattle.gears.specs.Remaining.{nobody as gears·nobody, a, firstNotFalling}
+use Rattle.gears.specs.Remaining.{noGear, a, firstNotFalling}
 use Rattle.nearest.specs.Nearest.{apart, near, nearer, nearest}
 use Rattle.rules.specs.Rules.{pastLast, jOf, firstBelow, oneAt, acrossOf, choiceOf}
 use Rattle.presence.specs.Presence.{some, accelerates, anyRun, hasRun}
-use Rattle.state.specs.State.{windowOf, within, gearAcceleration, byWindow, stateOf}
+use Rattle.state.specs.State.{windowOf, slowEnough, gearAcceleration, byWindow, stateOf}
 use Rattle.session.specs.Table.{lowestLacking, remainingFrom, remaining, gearsOf, windowsOf}
 use Rattle.demand.specs.Demand.{chosenOf}
 use Rattle.urban.specs.Urban.{partPower, lUrbanOf}
@@ -81,7 +81,7 @@ runs : List ℕ
 runs = 5 ∷ 6 ∷ 7 ∷ 8 ∷ 13 ∷ 14 ∷ 15 ∷ 16 ∷ 9 ∷ 10 ∷ 11 ∷ 12 ∷ 17 ∷ 18 ∷ 19 ∷ 20 ∷ []
 
 louder-runs : chosenRuns louderSheet ≡ runs
-unfolding runs same number lowest rounded corrections correctionOf correctedSide sideOf inRange tenthsOf readingOf ofBits pmrOf between aUrban aRef records recordAt zeros vehicleTests vehicleGood vehicleIn runTests runGood runIn readingFrom closingTests closingGood closingIn wrongSize noVehicle noClosing goodAt lowestBroken examined bothSides validOf candidateOf restFrom restOf spanned fitting window·nobody fourAt firstPlace firstWindow largerSum accelerationOf meanOf gears·nobody a firstNotFalling apart near nearer nearest pastLast jOf firstBelow oneAt acrossOf choiceOf kOf some accelerates anyRun hasRun windowOf within gearAcceleration byWindow stateOf lowestLacking remainingFrom remaining gearsOf windowsOf chosenOf partPower lUrbanOf outcomeOf weighedLevel basisOf trackIn referenceAt noFour gearAt windowAt weighedGear selectOne selectPair selectedIn sheetVehicle sheetTrack pmrIn choiceIn chosenIn runsOf chosenRunsBy chosenRuns
+unfolding runs same number lowest rounded corrections correctionOf correctedSide sideOf inRange tenthsOf readingOf ofBits pmrOf between aUrban aRef records recordAt zeros vehicleTests vehicleGood vehicleIn runTests runGood runIn readingFrom closingTests closingGood closingIn wrongSize noVehicle noClosing goodAt lowestBroken examined bothSides validOf candidateOf restFrom restOf spanned fitting noRun fourAt firstPlace firstWindow largerSum accelerationOf meanOf noGear a firstNotFalling apart near nearer nearest pastLast jOf firstBelow oneAt acrossOf choiceOf kOf some accelerates anyRun hasRun windowOf slowEnough gearAcceleration byWindow stateOf lowestLacking remainingFrom remaining gearsOf windowsOf chosenOf partPower lUrbanOf outcomeOf weighedLevel basisOf trackIn referenceAt noFour gearAt windowAt weighedGear selectOne selectPair selectedIn sheetVehicle sheetTrack pmrIn choiceIn chosenIn runsOf chosenRunsBy chosenRuns
 louder-runs = same→≡ _ _ tt
 
 -- none is lower
@@ -111,5 +111,5 @@ louder =
 
 -- and what it gives: 71 for 70
 pub louder-result : decisionGives (decisionOf louderSheet) ≡ 3 ∷ 3 ∷ 4 ∷ 78 ∷ 29 ∷ 727 ∷ 658 ∷ 71 ∷ 106 ∷ 149 ∷ 667 ∷ 149 ∷ 1 ∷ []
-unfolding same number lowest rounded corrections correctionOf correctedSide sideOf inRange tenthsOf readingOf ofBits pmrOf between aUrban aRef records recordAt zeros vehicleTests vehicleGood vehicleIn runTests runGood runIn readingFrom closingTests closingGood closingIn wrongSize noVehicle noClosing goodAt lowestBroken examined bothSides validOf candidateOf restFrom restOf spanned fitting window·nobody fourAt firstPlace firstWindow largerSum accelerationOf meanOf gears·nobody a firstNotFalling apart near nearer nearest pastLast jOf firstBelow oneAt acrossOf choiceOf kOf some accelerates anyRun hasRun windowOf within gearAcceleration byWindow stateOf lowestLacking remainingFrom remaining gearsOf windowsOf chosenOf partPower lUrbanOf outcomeOf weighedLevel basisOf trackIn referenceAt noFour gearAt windowAt weighedGear selectOne selectPair selectedIn selectionBy finishBy decideGears decideWhole decideBy decisionOf fieldsOf
+unfolding same number lowest rounded corrections correctionOf correctedSide sideOf inRange tenthsOf readingOf ofBits pmrOf between aUrban aRef records recordAt zeros vehicleTests vehicleGood vehicleIn runTests runGood runIn readingFrom closingTests closingGood closingIn wrongSize noVehicle noClosing goodAt lowestBroken examined bothSides validOf candidateOf restFrom restOf spanned fitting noRun fourAt firstPlace firstWindow largerSum accelerationOf meanOf noGear a firstNotFalling apart near nearer nearest pastLast jOf firstBelow oneAt acrossOf choiceOf kOf some accelerates anyRun hasRun windowOf slowEnough gearAcceleration byWindow stateOf lowestLacking remainingFrom remaining gearsOf windowsOf chosenOf partPower lUrbanOf outcomeOf weighedLevel basisOf trackIn referenceAt noFour gearAt windowAt weighedGear selectOne selectPair selectedIn selectionBy finishBy decideGears decideWhole decideBy decisionOf fieldsOf
 louder-result = same→≡ _ _ tt

@@ -27,13 +27,13 @@ use Rattle.sheet.specs.Examining.{wrongSize, noVehicle, noClosing, goodAt, lowe
 use Rattle.valid.specs.Valid.{bothSides, validOf, candidateOf}
 use Rattle.rest.specs.Rest.{restFrom, restOf}
 use Rattle.four.specs.Four.{spanned, fitting, largerSum}
-use Rattle.window.specs.Windows.{nobody as window·nobody, fourAt, firstPlace, firstWindow}
+use Rattle.window.specs.Windows.{noRun, fourAt, firstPlace, firstWindow}
 use Rattle.acceleration.specs.Acceleration.{accelerationOf, meanOf, kOf}
-use Rattle.gears.specs.Remaining.{nobody as gears·nobody, a, firstNotFalling}
+use Rattle.gears.specs.Remaining.{noGear, a, firstNotFalling}
 use Rattle.nearest.specs.Nearest.{apart, near, nearer, nearest}
 use Rattle.rules.specs.Rules.{pastLast, jOf, firstBelow, oneAt, acrossOf, choiceOf}
 use Rattle.presence.specs.Presence.{some, accelerates, anyRun, hasRun}
-use Rattle.state.specs.State.{windowOf, within, gearAcceleration, byWindow, stateOf}
+use Rattle.state.specs.State.{windowOf, slowEnough, gearAcceleration, byWindow, stateOf}
 use Rattle.session.specs.Table.{lowestLacking, remainingFrom, remaining, gearsOf, windowsOf}
 use Rattle.demand.specs.Demand.{chosenOf}
 use Rattle.urban.specs.Urban.{partPower, lUrbanOf}
@@ -62,7 +62,7 @@ test : Example → Bool
 test e = same (gives e) (shouldGive e)
 
 every-test : T (allOf (map test starred))
-unfolding starred same test number lowest rounded corrections correctionOf correctedSide sideOf inRange tenthsOf readingOf ofBits pmrOf between aUrban aRef records recordAt zeros vehicleTests vehicleGood vehicleIn runTests runGood runIn readingFrom closingTests closingGood closingIn wrongSize noVehicle noClosing goodAt lowestBroken examined bothSides validOf candidateOf restFrom restOf spanned fitting window·nobody fourAt firstPlace firstWindow largerSum accelerationOf meanOf gears·nobody a firstNotFalling apart near nearer nearest pastLast jOf firstBelow oneAt acrossOf choiceOf kOf some accelerates anyRun hasRun windowOf within gearAcceleration byWindow stateOf lowestLacking remainingFrom remaining gearsOf windowsOf chosenOf partPower lUrbanOf outcomeOf weighedLevel basisOf trackIn referenceAt noFour gearAt windowAt weighedGear selectOne selectPair selectedIn selectionBy finishBy decideGears decideWhole decideBy decisionOf fieldsOf
+unfolding starred same test number lowest rounded corrections correctionOf correctedSide sideOf inRange tenthsOf readingOf ofBits pmrOf between aUrban aRef records recordAt zeros vehicleTests vehicleGood vehicleIn runTests runGood runIn readingFrom closingTests closingGood closingIn wrongSize noVehicle noClosing goodAt lowestBroken examined bothSides validOf candidateOf restFrom restOf spanned fitting noRun fourAt firstPlace firstWindow largerSum accelerationOf meanOf noGear a firstNotFalling apart near nearer nearest pastLast jOf firstBelow oneAt acrossOf choiceOf kOf some accelerates anyRun hasRun windowOf slowEnough gearAcceleration byWindow stateOf lowestLacking remainingFrom remaining gearsOf windowsOf chosenOf partPower lUrbanOf outcomeOf weighedLevel basisOf trackIn referenceAt noFour gearAt windowAt weighedGear selectOne selectPair selectedIn selectionBy finishBy decideGears decideWhole decideBy decisionOf fieldsOf
 every-test = tt
 
 tested : (none : Example) (es : List Example) → T (allOf (map test es)) → (n : ℕ) → n < length es → Holds (getD es n none)
@@ -77,5 +77,5 @@ every-starred none = tested none starred every-test
 
 -- The chosen runs of the worked sheet: records 5 to 8 and 13 to 16 of gear 3, 9 to 12 and 17 to 20 of gear 4.
 pub worked-runs : chosenRuns workedSheet ≡ 5 ∷ 6 ∷ 7 ∷ 8 ∷ 13 ∷ 14 ∷ 15 ∷ 16 ∷ 9 ∷ 10 ∷ 11 ∷ 12 ∷ 17 ∷ 18 ∷ 19 ∷ 20 ∷ []
-unfolding same number lowest rounded corrections correctionOf correctedSide sideOf inRange tenthsOf readingOf ofBits pmrOf between aUrban aRef records recordAt zeros vehicleTests vehicleGood vehicleIn runTests runGood runIn readingFrom closingTests closingGood closingIn wrongSize noVehicle noClosing goodAt lowestBroken examined bothSides validOf candidateOf restFrom restOf spanned fitting window·nobody fourAt firstPlace firstWindow largerSum accelerationOf meanOf gears·nobody a firstNotFalling apart near nearer nearest pastLast jOf firstBelow oneAt acrossOf choiceOf kOf some accelerates anyRun hasRun windowOf within gearAcceleration byWindow stateOf lowestLacking remainingFrom remaining gearsOf windowsOf chosenOf partPower lUrbanOf outcomeOf weighedLevel basisOf trackIn referenceAt noFour gearAt windowAt weighedGear selectOne selectPair selectedIn sheetVehicle sheetTrack pmrIn choiceIn chosenIn runsOf chosenRunsBy chosenRuns
+unfolding same number lowest rounded corrections correctionOf correctedSide sideOf inRange tenthsOf readingOf ofBits pmrOf between aUrban aRef records recordAt zeros vehicleTests vehicleGood vehicleIn runTests runGood runIn readingFrom closingTests closingGood closingIn wrongSize noVehicle noClosing goodAt lowestBroken examined bothSides validOf candidateOf restFrom restOf spanned fitting noRun fourAt firstPlace firstWindow largerSum accelerationOf meanOf noGear a firstNotFalling apart near nearer nearest pastLast jOf firstBelow oneAt acrossOf choiceOf kOf some accelerates anyRun hasRun windowOf slowEnough gearAcceleration byWindow stateOf lowestLacking remainingFrom remaining gearsOf windowsOf chosenOf partPower lUrbanOf outcomeOf weighedLevel basisOf trackIn referenceAt noFour gearAt windowAt weighedGear selectOne selectPair selectedIn sheetVehicle sheetTrack pmrIn choiceIn chosenIn runsOf chosenRunsBy chosenRuns
 worked-runs = same→≡ _ _ tt

@@ -19,8 +19,8 @@ unfoldable pub windowOf : List ℕ → ℕ → ℕ → ℕ → Window
 windowOf s background kind gear = firstWindow (restOf s background kind gear)
 
 -- no run of the window has an engine speed above S
-unfoldable pub within : ℕ → Four → Bool
-within S f = leb (f .a .engine) S && leb (f .b .engine) S && leb (f .c .engine) S && leb (f .d .engine) S
+unfoldable pub slowEnough : ℕ → Four → Bool
+slowEnough S f = leb (f .a .engine) S && leb (f .b .engine) S && leb (f .c .engine) S && leb (f .d .engine) S
 
 -- a gear's acceleration, in hundredths of m/s²: the mean of its acceleration window's four
 unfoldable pub gearAcceleration : ℕ → Four → ℕ
@@ -32,7 +32,7 @@ gearAcceleration path f =
 unfoldable pub byWindow : ℕ → ℕ → ℕ → Window → State
 byWindow S path gear window.Nothing = NoWindow
 byWindow S path gear (window.Runs f) =
-    cond (within S f) (Remains (record { number = gear; acceleration = record { 0 = gearAcceleration path f } }) f) Dropped
+    cond (slowEnough S f) (Remains (record { number = gear; acceleration = record { 0 = gearAcceleration path f } }) f) Dropped
 
 -- What the evaluation goes by: the sheet, its background in tenths, the rated engine speed S, and the path c + length in cm.
 pub record Track : Type 0 where

@@ -9,9 +9,9 @@ ghost use mathlib.Core.Path.{_≡_};
 ghost use Prim.Native.Nat.{_≤_};
 ghost use Rattle.run_record.specs.Runs.{RunsGood};
 ghost use Rattle.four.specs.Four.{Each};
-ghost use Rattle.valid.specs.Valid.{Rising};
+ghost use Rattle.valid.specs.Valid.{NotSlower};
 ghost use Rattle.presence.specs.Presence.{hasRun};
-ghost use Rattle.state.specs.State.{windowOf, within, gearAcceleration, byWindow, stateOf, trackOf};
+ghost use Rattle.state.specs.State.{windowOf, slowEnough, gearAcceleration, byWindow, stateOf, trackOf};
 
 // What becomes of a gear.
 pub enum State {
@@ -24,13 +24,13 @@ pub enum State {
 }
 
 fn slow_enough(f: Four, rated: u16) -> bool
-    ensures { λ r. ⌜ r ≡ within rated f ⌝ }
+    ensures { λ r. ⌜ r ≡ slowEnough rated f ⌝ }
 {
     (f.a.engine <= rated) & (f.b.engine <= rated) & (f.c.engine <= rated) & (f.d.engine <= rated)
 }
 
 fn acceleration(f: Four, path: u16) -> Hundredths
-    requires { ⌜ Each Rising f ⌝ }
+    requires { ⌜ Each NotSlower f ⌝ }
     requires { ⌜ (1000 ≤ path) × (path ≤ 4000) ⌝ }
     ensures { λ r. ⌜ r .0 ≡ gearAcceleration path f ⌝ }
 {

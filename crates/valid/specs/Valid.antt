@@ -39,6 +39,6 @@ candidateOf s background kind gear n =
     cond (eqb (byte r 0) kind && ofGear s gear n) (validOf (runIn r) background n) NotValid
 
 -- the speeds of an acceleration run: not slower at BB', and at most 150.0 km/h
-pub record Rising (v : ValidRun) : Type 0 where
+pub record NotSlower (v : ValidRun) : Type 0 where
   pub order : v .start ≤ v .end
   pub most : v .end ≤ 1500

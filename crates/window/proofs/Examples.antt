@@ -9,8 +9,8 @@ use Rattle.units.specs.Tests.{allOf}
 use Rattle.four.specs.declared.ValidRun.{ValidRun}
 use Rattle.window.specs.declared.Window.{Window}
 use Rattle.window.specs.declared.Window.the-variants.{Runs, Nothing}
-use Rattle.four.specs.Four.{spanned, fitting, largerSum, levelOf}
-use Rattle.window.specs.Windows.{nobody, fourAt, firstPlace, firstWindow}
+use Rattle.four.specs.Four.{spanned, fitting, largerSum, conditionLevel}
+use Rattle.window.specs.Windows.{noRun, fourAt, firstPlace, firstWindow}
 
 run : ℕ → ℕ → ℕ → ValidRun
 run n l r = record { left = record { 0 = l }; right = record { 0 = r }; start = 0; end = 0; engine = 0; number = n }
@@ -22,7 +22,7 @@ data Example : Type 0 where
   none : List ValidRun → Example
 
 isAt : ℕ → ℕ → Window → Bool
-isAt n level (Runs f) = eqb (f .a .number) n && eqb (levelOf f) level
+isAt n level (Runs f) = eqb (f .a .number) n && eqb (conditionLevel f) level
 isAt n level Nothing = false
 
 isNone : Window → Bool
@@ -51,5 +51,5 @@ examples =
     ∷ []
 
 every-holds : T (allOf (map holds examples))
-unfolding run isAt isNone holds examples spanned fitting nobody fourAt firstPlace firstWindow largerSum levelOf lowest rounded
+unfolding run isAt isNone holds examples spanned fitting noRun fourAt firstPlace firstWindow largerSum conditionLevel lowest rounded
 every-holds = tt

@@ -12,12 +12,12 @@ use Rattle.window.specs.declared.Window.{Window}
 use Rattle.window.specs.declared.Window.the-variants.{Runs, Nothing}
 
 -- what stands past the end of a list of runs (never read by what follows)
-unfoldable pub nobody : ValidRun
-nobody = record { left = record { 0 = 0 }; right = record { 0 = 0 }; start = 0; end = 0; engine = 0; number = 0 }
+unfoldable pub noRun : ValidRun
+noRun = record { left = record { 0 = 0 }; right = record { 0 = 0 }; start = 0; end = 0; engine = 0; number = 0 }
 
 -- four neighbours, from place i on
 unfoldable pub fourAt : List ValidRun → ℕ → Four
-fourAt rest i = record { a = getD rest i nobody; b = getD rest (i + 1) nobody; c = getD rest (i + 2) nobody; d = getD rest (i + 3) nobody }
+fourAt rest i = record { a = getD rest i noRun; b = getD rest (i + 1) noRun; c = getD rest (i + 2) noRun; d = getD rest (i + 3) noRun }
 
 -- The first window: the lowest place at which four neighbours fit. (The number of places, if they fit at none.)
 unfoldable pub firstPlace : List ValidRun → ℕ

@@ -6,7 +6,7 @@ use native.Mathlib.Omega.{arith}
 use lib.Dec.{lit<}
 use Rattle.units.specs.Rounding.{rounded}
 use Rattle.units.proofs.Rounding.{rounded-rising}
-use Rattle.four.specs.Four.{largerSum, levelOf}
+use Rattle.four.specs.Four.{largerSum, conditionLevel}
 use Rattle.four.proofs.condition_level.Statement.{statement}
 use Rattle.four.proofs.condition_level.Tie as tie
 
@@ -27,7 +27,7 @@ unfolding rounded
 cast-t6 c = omega (arith, c .round .ensures, rounded-rising (c .before .larger .result) 4 262140 4 (lit< tt) (lit< tt) (omega (arith, c .before .larger .ensures, c .before .before .sum2 .ensures .1, c .before .before .before .sum .ensures .1)))
 
 returns : tie.Need-returns
-unfolding levelOf largerSum
+unfolding conditionLevel largerSum
 returns c = c .round .ensures ∙ ap (λ (n : ℕ). rounded n 4) (c .before .larger .ensures ∙ ap₂ max (c .before .before .before .sum .ensures .0) (c .before .before .sum2 .ensures .0))
 
 pub condition-level-spec : {M : Type 1} → statement M

@@ -5,7 +5,7 @@ use mathlib.Core.Logic.{⊎-elim}
 use native.Mathlib.Omega.{arith}
 use Prim.Native.Nat.{ℕ, _+_, _-_, _/_, _≤_, _<_}
 use lib.ListN.{length, take, length-set}
-use Rattle.rest.proofs.Rests.{Sought, sought-start, sought-valid, sought-other, sought-found, sought-carried, next-range, sought-next, sought-all}
+use Rattle.rest.proofs.Seeking.{Sought, sought-start, sought-valid, sought-other, sought-found, sought-carried, next-range, sought-next, sought-all}
 use Rattle.records.specs.Records.{records}
 use Rattle.window.specs.declared.Window.the-variants.{Runs}
 use Rattle.rest.specs.Rest.{restOf, restFrom}

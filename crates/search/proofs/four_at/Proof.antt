@@ -36,7 +36,7 @@ use denote.Triple.Walked.{says, needs, Stays, stay-dropped, walkOf, goes-dropped
 use denote.Exit.{yes}
 use Rattle.four.specs.declared.ValidRun.{ValidRun}
 use Rattle.four.specs.declared.Four.{Four}
-use Rattle.window.specs.Windows.{nobody, fourAt}
+use Rattle.window.specs.Windows.{noRun, fourAt}
 use Rattle.four.proofs.ValidRun as S
 use Rattle.four.proofs.ValidRun.Laws as S′
 use Rattle.four.proofs.Four as F
@@ -62,7 +62,7 @@ module _ {M : Type 1} (𝓤 : URA M) (H : Heap 𝓤) (A : Atoms 𝓤) (W : Given
 
   -- the four runs
   abbrev r : ℕ → ValidRun
-  r j = getD ys j nobody
+  r j = getD ys j noRun
 
   abbrev four : Four
   four = record { a = r i; b = r (i + 1); c = r (i + 2); d = r (i + 3) }
