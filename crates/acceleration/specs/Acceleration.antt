@@ -1,4 +1,4 @@
--- Accelerations in hundredths of m/s² (document 01, "From levels to windows", step 6), and k in hundredths (end of "Gears").
+-- Accelerations in hundredths of m/s² (document 01, "From levels to windows", step 6), and k in hundredths ("Gears", rule 3, and its end).
 use Prim.Native.Nat.{ℕ, _+_, _-_, _*_}
 use Rattle.units.specs.Rounding.{rounded}
 

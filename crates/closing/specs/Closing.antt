@@ -1,4 +1,5 @@
--- The layout of the closing record (document 01, "The sheet"): every field with its range, and every zero byte.
+-- The layout of the closing record (document 01, "The sheet"): the background with its range, and every zero byte. The number of runs, at 2,
+-- is asked by row 4 of the refusals.
 use Prim.Native.Nat.{ℕ}
 use mathlib.Core.Bool.{Bool, cond}
 use mathlib.Core.List.{List, [], _∷_}

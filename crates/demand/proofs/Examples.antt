@@ -1,5 +1,5 @@
--- Results and figures of chosen gears: document 01's examples and worked sheet, each case of the rules, and its ties. They were reckoned
--- apart from these definitions; one test computes that the definitions give each. Assumes nothing.
+-- Results and figures of chosen gears: document 01's examples and worked sheet, each case of the rules, and its ties. Their numbers are
+-- written out; one test computes that the definitions give each. Assumes nothing.
 use mathlib.Core.Bool.{Bool, true, false, _&&_}
 use mathlib.Core.List.{List, [], _∷_, map}
 use Prim.Native.Nat.{ℕ, _*_}

@@ -23,11 +23,12 @@ fitting f =
     spanned (f .a .left .0) (f .b .left .0) (f .c .left .0) (f .d .left .0)
     && spanned (f .a .right .0) (f .b .right .0) (f .c .right .0) (f .d .right .0)
 
--- Step 5: a condition's level, the larger of the two sides' means, rounded to a tenth
+-- the larger of the two sides' sums of four levels: four times the larger mean
 unfoldable pub largerSum : Four → ℕ
 largerSum f =
     max (f .a .left .0 + f .b .left .0 + f .c .left .0 + f .d .left .0)
     (f .a .right .0 + f .b .right .0 + f .c .right .0 + f .d .right .0)
 
+-- Step 5: a condition's level, the larger of the two sides' means, rounded to a tenth
 unfoldable pub conditionLevel : Four → ℕ
 conditionLevel f = rounded (largerSum f) 4

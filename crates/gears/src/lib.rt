@@ -11,9 +11,6 @@ pub struct Gear {
     pub acceleration: Hundredths,
 }
 
-// How many gears a vehicle can have.
-pub const GEARS: usize = 16;
-
 // The first of the first `count` gears whose acceleration is not above the next one's; count - 1 if there is none.
 pub fn first_not_falling(gears: [Gear; 16], count: usize) -> usize
     requires { ⌜ count ≤ 16 ⌝ }

@@ -1,4 +1,4 @@
--- What `level` says of a bit pattern, and how the walk goes from one float to the next. Assumes nothing.
+-- What `reading` and `level` say of a bit pattern, and how the walk goes from one float to the next. Assumes nothing.
 use Prim.Native.Nat.{ℕ, _+_, _*_}
 use mathlib.Core.Bool.{Bool, cond}
 use lib.Dec.{ltb, leb}

@@ -69,7 +69,7 @@ fn tenths_read(reading: Reading) -> u16
     }
 }
 
-// The tenths that `level` gives for four bytes, or 0 if they are no level.
+// The tenths of the level in four bytes, or 0 if they are no level.
 fn tenths_of(four: &[u8; 4]) -> u16
     ensures { λ r. ⌜ r ≡ tenthsFound (readingOf 1 (number (now (four .entry)) 0 4)) ⌝ }
 {

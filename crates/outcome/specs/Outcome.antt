@@ -1,4 +1,4 @@
--- The fields of the result (document 01, end of "L_urban").
+-- The fields of the result (document 01, "L_urban": end of the first paragraph, and the result record).
 use Prim.Native.Nat.{ℕ}
 use lib.Dec.{leb}
 use Rattle.weighing.specs.declared.Reference.{Reference}

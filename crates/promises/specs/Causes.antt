@@ -27,6 +27,7 @@ undecided (choice.One rule p) = false
 undecided (choice.Pair rule p) = false
 undecided choice.Nothing = true
 
+-- there is no window
 abbrev pub missing : Window → Bool
 missing (window.Runs f) = false
 missing window.Nothing = true

@@ -25,6 +25,6 @@ runIn r =
       «engine_speed» = word r 20;
     }
 
--- the reading of a kind and a float
+-- the reading of a kind and a float: 1 a level, 2 an overload, else absent
 unfoldable pub readingFrom : ℕ → Float → Reading
 readingFrom kind x = cond (eqb kind 1) (Level x) (cond (eqb kind 2) (Overload x) Absent)

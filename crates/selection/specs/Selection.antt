@@ -30,15 +30,16 @@ gearAt gs p = getD gs p remaining.noGear
 unfoldable pub windowAt : List Four → ℕ → Four
 windowAt ws p = getD ws p noFour
 
--- a gear with its two windows
+-- a gear with its two windows: w and c are the larger sums of their four levels
 unfoldable pub weighedGear : Gear → Four → Four → figure.Gear
 weighedGear g f h = record { number = g .number; a = g .acceleration .0; w = largerSum f; c = largerSum h }
 
--- the chosen gears with their windows, or the refusal of one that has no constant-speed window
+-- the chosen gears with their windows, or the refusal: no rule applies (row 9), or a gear has no constant-speed window (row 10)
 pub data Selected : Type 0 where
   lacking : Refusal → Selected
   gears : figure.Gears → Selected
 
+-- row 10 for one gear
 unfoldable pub selectOne : ℕ → Gear → Four → Window → Selected
 selectOne rule g f window.Nothing = lacking (refusal.NoConstantSpeed (g .number))
 selectOne rule g f (window.Runs h) = gears (figure.one rule (weighedGear g f h))

@@ -58,13 +58,6 @@ only-levels (Level x) background t e = (x, refl)
 only-levels (Overload x) background t e = absurd (let z : _≡_ {A = ℕ} 0 1 = cc in omega arith)
 only-levels Absent background t e = absurd (let z : _≡_ {A = ℕ} 0 1 = cc in omega arith)
 
--- a corrected level is from 19.5 to 140.0 dB
-pub side-range : (x : Float) (background : ℕ) (t : Tenths) → sideOf (Level x) background ≡ Corrected t → (195 ≤ t .0) × (t .0 ≤ 1400)
-side-range x background t e =
-    let s = counting x background t e in
-    let r = tenths-range x (s .in-range) in
-    omega (arith, correction-small (tenthsOf x - background), s .is)
-
 -- over one background, a float that is not smaller never has a lower corrected level
 pub side-rising : (x y : Float) (background : ℕ) (t u : Tenths) → sideOf (Level x) background ≡ Corrected t → sideOf (Level y) background ≡ Corrected u → lt y x ≡ false → t .0 ≤ u .0
 side-rising x y background t u p q h =

@@ -22,7 +22,7 @@ windowOf s background kind gear = firstWindow (restOf s background kind gear)
 unfoldable pub slowEnough : ℕ → Four → Bool
 slowEnough S f = leb (f .a .engine) S && leb (f .b .engine) S && leb (f .c .engine) S && leb (f .d .engine) S
 
--- a gear's acceleration, in hundredths of m/s²: the mean of its acceleration window's four
+-- "From levels to windows", step 6: a gear's acceleration, in hundredths of m/s², the mean of its acceleration window's four
 unfoldable pub gearAcceleration : ℕ → Four → ℕ
 gearAcceleration path f =
     meanOf (accelerationOf (f .a .start) (f .a .end) path) (accelerationOf (f .b .start) (f .b .end) path)

@@ -53,6 +53,6 @@ vehicleIn r =
 unfoldable pub vehicleOf : List ℕ → VehicleRecord
 vehicleOf r = cond (vehicleGood r) (Good (vehicleIn r)) Broken
 
--- the path over which a vehicle accelerates, in cm: c + length, c 2,000 from AA' and 1,000 from PP'
+-- "From levels to windows", step 6: the path in cm, c + length, c 2,000 from AA' and 1,000 from PP'
 abbrev pub pathOf : Vehicle → ℕ
 pathOf v = cond (eqb (v .«start_line») 0) 2000 1000 + v .length
