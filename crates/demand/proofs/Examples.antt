@@ -11,8 +11,7 @@ use Rattle.weighing.specs.declared.Reference.{Reference}
 use Rattle.outcome.specs.declared.Outcome.{Outcome}
 use Rattle.weighing.specs.Weighing.{weighedLevel, basisOf}
 use Rattle.urban.specs.Urban.{partPower, lUrbanOf}
-use Rattle.outcome.specs.Outcome.{outcomeOf}
-use Rattle.result.specs.Result.{flag}
+use Rattle.outcome.specs.Outcome.{outcomeOf, flag}
 use Rattle.demand.specs.Fractions.{Frac, _over_, _⊕_, _⊖_, _⊗_, below, larger, apart}
 use Rattle.demand.specs.Figure.{Gear, Gears, one, pair, mean, exactK, exactWeighed, exactLevel, exactW, exactC, aPrime, exactKp, figure, Dk, Dp}
 use Rattle.demand.specs.Demand.{chosenOf, reported, bound}

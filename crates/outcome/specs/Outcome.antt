@@ -1,5 +1,6 @@
 -- The fields of the result (document 01, "L_urban": end of the first paragraph, and the result record).
 use Prim.Native.Nat.{ℕ}
+use mathlib.Core.Bool.{Bool, true, false}
 use lib.Dec.{leb}
 use Rattle.weighing.specs.declared.Reference.{Reference}
 use Rattle.weighing.specs.declared.Chosen.{Chosen}
@@ -27,3 +28,8 @@ outcomeOf chosen r limit =
       pmr = r .pmr;
       a = b .a;
     }
+
+-- pass as a number: pass 1, fail 0
+abbrev pub flag : Bool → ℕ
+flag true = 1
+flag false = 0

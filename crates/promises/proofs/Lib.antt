@@ -4,3 +4,4 @@ pub mod Alike
 pub mod Rising
 pub mod Causes
 pub mod Verdicts
+pub mod Written

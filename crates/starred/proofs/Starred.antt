@@ -41,7 +41,7 @@ use Rattle.outcome.specs.Outcome.{outcomeOf}
 use Rattle.weighing.specs.Weighing.{weighedLevel, basisOf}
 use Rattle.decision.specs.Decision.{trackIn, referenceAt, finishBy, decideGears, decideWhole, decideBy, decisionOf, sheetVehicle, sheetTrack, pmrIn, choiceIn}
 use Rattle.selection.specs.Selection.{noFour, gearAt, windowAt, weighedGear, selectOne, selectPair, selectedIn, selectionBy}
-use Rattle.result.specs.Result.{fieldsOf}
+use Rattle.fields.specs.Fields.{fieldsOf}
 use Rattle.promises.specs.Demand.{chosenIn, runsOf, chosenRunsBy, chosenRuns}
 use Rattle.starred.specs.Starred.{Example, gives, shouldGive, Holds, starred, workedSheet}
 

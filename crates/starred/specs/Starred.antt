@@ -21,7 +21,7 @@ use Rattle.urban.specs.Urban.{lUrbanOf}
 use Rattle.decision.specs.declared.Decision.{Decision}
 use Rattle.decision.specs.declared.Decision.the-variants as decision
 use Rattle.refusal.specs.Refusal.{numberOf, placeOf}
-use Rattle.result.specs.Result.{fieldsOf}
+use Rattle.fields.specs.Fields.{fieldsOf}
 use Rattle.decision.specs.Decision.{decisionOf}
 use Rattle.promises.specs.Demand.{numbersIn}
 

@@ -1,8 +1,8 @@
--- `result::read_back` meets its contract, field by field. Assumes nothing.
+-- `fields::read_back` meets its contract, field by field. Assumes nothing.
 use borrow.Author.Needs.{needs}
-use Rattle.result.specs.Result.{outcomeIn}
-use Rattle.result.proofs.read_back.Statement.{statement}
-use Rattle.result.proofs.read_back.Tie as tie
+use Rattle.fields.specs.Fields.{outcomeIn}
+use Rattle.fields.proofs.read_back.Statement.{statement}
+use Rattle.fields.proofs.read_back.Tie as tie
 
 shared-slice-read-t3 : tie.Need-shared-slice-read-t3
 shared-slice-read-t3 c = search needs
