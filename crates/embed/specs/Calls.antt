@@ -1,15 +1,10 @@
--- An answer as the numbers that a caller in C or Rust gets. Assumes nothing.
+-- The place of an answer, as a caller in C or Rust gets it.
 use Prim.Native.Nat.{ℕ}
-use Rattle.refusal.specs.Refusal.{numberOf, placeOf}
+use Rattle.refusal.specs.Refusal.{placeOf}
 use Rattle.refusal.specs.declared.Answer.{Answer}
 use Rattle.refusal.specs.declared.Answer.the-variants.{Accepted, Refused}
 
--- 0 on success, else the number of the refusal
-abbrev pub codeOf : Answer → ℕ
-codeOf Accepted = 0
-codeOf (Refused r) = numberOf r
-
--- 0 on success, else the place of the refusal
-abbrev pub whereOf : Answer → ℕ
-whereOf Accepted = 0
-whereOf (Refused r) = placeOf r
+-- the place of a refusal; 0 for an accepted sheet
+abbrev pub refusalPlace : Answer → ℕ
+refusalPlace Accepted = 0
+refusalPlace (Refused r) = placeOf r

@@ -7,13 +7,14 @@ ghost use lib.Dec.{ltb};
 ghost use lib.ListN.{length, take, replicate};
 ghost use Rattle.units.specs.Bytes.{number};
 ghost use Rattle.promises.specs.Answer.{answerOf, bufferOf};
+ghost use Rattle.promises.specs.Causes.{refusalNumber};
 ghost use Rattle.promises.specs.Demand.{CloseTo, RisesFrom};
 ghost use Rattle.line.specs.Line.{lineOf};
-ghost use Rattle.embed.specs.Calls.{codeOf, whereOf};
+ghost use Rattle.embed.specs.Calls.{refusalPlace};
 
 // 0 on success, else the number of the refusal.
 fn code_of(answer: Answer) -> u32
-    ensures { λ r. ⌜ r ≡ codeOf answer ⌝ }
+    ensures { λ r. ⌜ r ≡ refusalNumber answer ⌝ }
 {
     match answer {
         Answer::Accepted => 0,
@@ -23,7 +24,7 @@ fn code_of(answer: Answer) -> u32
 
 // 0 on success, else the place of the refusal.
 fn place_of(answer: Answer) -> usize
-    ensures { λ r. ⌜ r ≡ whereOf answer ⌝ }
+    ensures { λ r. ⌜ r ≡ refusalPlace answer ⌝ }
 {
     match answer {
         Answer::Accepted => 0,
@@ -35,8 +36,8 @@ fn place_of(answer: Answer) -> usize
 // and leaves `result` as it was. The place of the refusal goes to `place`, 0 on success.
 #[no_mangle]
 pub extern "C" fn ruthimpo_evaluate(sheet: &[u8], result: &mut [u8], place: &mut usize) -> u32
-    ensures code { λ r. ⌜ r ≡ codeOf (answerOf (now (sheet .entry)) (length (now (result .entry)))) ⌝ }
-    ensures place { λ _. ⌜ now (place .exit) ≡ whereOf (answerOf (now (sheet .entry)) (length (now (result .entry)))) ⌝ }
+    ensures code { λ r. ⌜ r ≡ refusalNumber (answerOf (now (sheet .entry)) (length (now (result .entry)))) ⌝ }
+    ensures place { λ _. ⌜ now (place .exit) ≡ refusalPlace (answerOf (now (sheet .entry)) (length (now (result .entry)))) ⌝ }
     ensures buffer { λ _. ⌜ now (result .exit) ≡ bufferOf (now (sheet .entry)) (now (result .entry)) ⌝ }
     ensures close { λ _. ⌜ (answerOf (now (sheet .entry)) (length (now (result .entry))) ≡ Answer.Accepted → CloseTo (now (sheet .entry)) (number (now (result .exit)) 10 2)) ⌝ }
     ensures rising { λ _. ⌜ (answerOf (now (sheet .entry)) (length (now (result .entry))) ≡ Answer.Accepted → RisesFrom (now (sheet .entry)) (number (now (result .exit)) 10 2)) ⌝ }

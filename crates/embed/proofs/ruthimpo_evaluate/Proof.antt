@@ -1,7 +1,8 @@
 -- `embed::ruthimpo_evaluate` meets its contract: each number is that of the answer which `evaluate` gives. Assumes nothing.
 use borrow.Author.Needs.{needs}
 use mathlib.Core.Path.{ap, _∙_}
-use Rattle.embed.specs.Calls.{codeOf, whereOf}
+use Rattle.promises.specs.Causes.{refusalNumber}
+use Rattle.embed.specs.Calls.{refusalPlace}
 use Rattle.embed.proofs.ruthimpo_evaluate.Statement.{statement}
 use Rattle.embed.proofs.ruthimpo_evaluate.Tie as tie
 
@@ -20,7 +21,7 @@ same-length c = search needs
 returns : tie.Need-returns
 returns c =
     let e = c .before .before .before .before .evaluate in
-    (c .code-of .ensures ∙ ap codeOf (e .ensures .0), (c .before .place-of .ensures ∙ ap whereOf (e .ensures .0), (e .ensures .1 .0, (λ a. e .ensures .1 .1 .0 (e .ensures .0 ∙ a), λ a. e .ensures .1 .1 .1 (e .ensures .0 ∙ a)))))
+    (c .code-of .ensures ∙ ap refusalNumber (e .ensures .0), (c .before .place-of .ensures ∙ ap refusalPlace (e .ensures .0), (e .ensures .1 .0, (λ a. e .ensures .1 .1 .0 (e .ensures .0 ∙ a), λ a. e .ensures .1 .1 .1 (e .ensures .0 ∙ a)))))
 
 pub ruthimpo-evaluate-spec : {M : Type 1} → statement M
 ruthimpo-evaluate-spec =
