@@ -7,30 +7,30 @@ use native.Mathlib.Omega.{arith}
 use lib.Dec.{leb}
 use lib.ListN.{length}
 use borrow.Author.Tests.{lt-ltb, le-ltb}
-use Rattle.vehicle.specs.declared.Vehicle.{Vehicle}
-use Rattle.closing.specs.declared.Closing.{Closing}
+use Rattle.record.specs.declared.Vehicle.{Vehicle}
+use Rattle.record.specs.declared.Closing.{Closing}
 use Rattle.sheet.specs.declared.Examination.the-variants.{Whole}
-use Rattle.records.specs.Records.{recordAt}
-use Rattle.vehicle.specs.Vehicle.{vehicleIn}
+use Rattle.record.specs.Records.{recordAt}
+use Rattle.record.specs.Vehicle.{vehicleIn}
 use Rattle.sheet.specs.Examining.{examined}
-use Rattle.vehicle.proofs.Ranges.{vehicle-ranges}
+use Rattle.record.proofs.VehicleRanges.{vehicle-ranges}
 use Rattle.sheet.proofs.Examinations.{WholeSheet, whole}
 use Rattle.units.specs.declared.Hundredths.{Hundredths}
-use Rattle.reference.specs.Reference.{pmrOf, aUrban, aRef}
-use Rattle.four.specs.declared.Four.{Four}
-use Rattle.run_record.specs.Runs.{RunsGood}
+use Rattle.reference.specs.Reference.{pmrOf, aUrban, aRef, referenceAt}
+use Rattle.window.specs.declared.Four.{Four}
+use Rattle.record.specs.Runs.{RunsGood}
 use Rattle.gears.specs.declared.Gear.{Gear}
 use Rattle.gears.specs.Remaining.{a, firstNotFalling}
-use Rattle.rules.specs.Rules.{choiceOf}
+use Rattle.gears.specs.Rules.{choiceOf}
 use Rattle.units.proofs.Lowest.{found}
-use Rattle.state.specs.State.{Track, stateOf}
+use Rattle.session.specs.State.{Session, stateOf}
 use Rattle.session.specs.Table.{lacking, lowestLacking, gearsOf, windowsOf}
-use Rattle.presence.specs.Presence.{anyRun}
-use Rattle.weighing.specs.declared.Reference.{Reference}
+use Rattle.sheet.specs.Presence.{anyRun}
+use Rattle.reference.specs.declared.Reference.{Reference}
 use Rattle.refusal.specs.declared.Refusal.the-variants as refusal
 use Rattle.decision.specs.declared.Decision.the-variants.{Refused}
-use Rattle.decision.specs.Decision.{trackIn, referenceAt, finishBy, decideGears, decideWhole, decideBy, decisionOf}
-use Rattle.selection.specs.Selection.{gearAt, selectedIn, selectionBy}
+use Rattle.decision.specs.Decision.{sessionIn, finishBy, decideGears, decideWhole, decideBy, decisionOf}
+use Rattle.decision.specs.Selection.{gearAt, selectedIn, selectionBy}
 
 -- ---- a whole sheet
 
@@ -52,17 +52,17 @@ module _ (s : List ℕ) (v : Vehicle) (z : Closing) (e : examined s ≡ Whole v 
       let r = vehicle-ranges (recordAt s 0) (w .vehicle) .«length» in
       (omega arith, omega arith)
 
-  pub decision-is : decisionOf s ≡ decideWhole (trackIn s v z) (pmrOf (v .power) (v .mass)) (v .limit)
+  pub decision-is : decisionOf s ≡ decideWhole (sessionIn s v z) (pmrOf (v .power) (v .mass)) (v .limit)
   unfolding decisionOf decideBy
   decision-is = ap (decideBy s) e
 
 -- ---- rows 6 and 7
 
-pub lacking-most : (t : Track) → lowestLacking t ≤ 16
+pub lacking-most : (t : Session) → lowestLacking t ≤ 16
 unfolding lowestLacking
 lacking-most t = found (λ p. lacking (stateOf t (p + 1))) 16 0 .most
 
-module _ (t : Track) (q limit : ℕ) where
+module _ (t : Session) (q limit : ℕ) where
   pub row-6-low : q < 50 → decideWhole t q limit ≡ Refused refusal.PmrOutOfRange
   unfolding decideWhole
   row-6-low h = simp (lt-ltb q 50 h)

@@ -1,1 +1,2 @@
+pub mod Selections
 pub mod Decisions

@@ -4,46 +4,41 @@ use mathlib.Core.Bool.{cond, not, _||_}
 use mathlib.Core.List.{List}
 use lib.Dec.{ltb}
 use lib.ListN.{length}
-use Rattle.vehicle.specs.declared.Vehicle.{Vehicle}
-use Rattle.closing.specs.declared.Closing.{Closing}
+use Rattle.record.specs.declared.Vehicle.{Vehicle}
+use Rattle.record.specs.declared.Closing.{Closing}
 use Rattle.sheet.specs.declared.Examination.{Examination}
 use Rattle.sheet.specs.declared.Examination.the-variants as examination
-use Rattle.records.specs.Records.{recordAt}
-use Rattle.vehicle.specs.Vehicle.{vehicleIn, pathOf}
-use Rattle.closing.specs.Closing.{closingIn}
+use Rattle.record.specs.Records.{recordAt}
+use Rattle.record.specs.Vehicle.{vehicleIn, pathOf}
+use Rattle.record.specs.Closing.{closingIn}
 use Rattle.sheet.specs.Examining.{lastOf, examined}
-use Rattle.reference.specs.Reference.{pmrOf, aUrban, aRef}
-use Rattle.four.specs.declared.Four.{Four}
+use Rattle.reference.specs.Reference.{pmrOf, aUrban, aRef, referenceAt}
+use Rattle.window.specs.declared.Four.{Four}
 use Rattle.gears.specs.declared.Gear.{Gear}
-use Rattle.rules.specs.declared.Choice.{Choice}
+use Rattle.gears.specs.declared.Choice.{Choice}
 use Rattle.gears.specs.Remaining.{firstNotFalling}
-use Rattle.rules.specs.Rules.{choiceOf}
-use Rattle.state.specs.State.{Track}
+use Rattle.gears.specs.Rules.{choiceOf}
+use Rattle.session.specs.declared.Track.{Track}
+use Rattle.session.specs.State.{Session, sessionOf}
 use Rattle.session.specs.Table.{lowestLacking, gearsOf, windowsOf}
-use Rattle.presence.specs.Presence.{anyRun}
-use Rattle.weighing.specs.declared.Reference.{Reference}
-use Rattle.outcome.specs.Outcome.{outcomeOf}
+use Rattle.sheet.specs.Presence.{anyRun}
+use Rattle.reference.specs.declared.Reference.{Reference}
+use Rattle.urban.specs.Outcome.{outcomeOf}
 use Rattle.refusal.specs.declared.Refusal.the-variants as refusal
-use Rattle.selection.specs.declared.Selection.{Selection}
-use Rattle.selection.specs.declared.Selection.the-variants as selection
-use Rattle.selection.specs.Selection.{gearAt, selectedIn, selectionBy}
+use Rattle.decision.specs.declared.Selection.{Selection}
+use Rattle.decision.specs.declared.Selection.the-variants as selection
+use Rattle.decision.specs.Selection.{gearAt, selectedIn, selectionBy}
 use Rattle.decision.specs.declared.Decision.{Decision}
 use Rattle.decision.specs.declared.Decision.the-variants.{Refused, Result}
 
 -- ---- what a whole sheet is evaluated by
 
 -- The background is the larger of before and after.
-unfoldable pub trackIn : List ℕ → Vehicle → Closing → Track
-trackIn s v z =
-    record {
-      sheet = s;
-      background = max (v .background .0) (z .background .0);
-      S = v .«rated_speed»;
-      path = pathOf v;
-    }
+unfoldable pub trackOf : Vehicle → Closing → Track
+trackOf v z = record { background = record { 0 = max (v .background .0) (z .background .0) }; rated = v .«rated_speed»; path = pathOf v }
 
-unfoldable pub referenceAt : ℕ → Reference
-referenceAt q = record { pmr = q; «a_urban» = record { 0 = aUrban q }; «a_ref» = record { 0 = aRef q } }
+abbrev pub sessionIn : List ℕ → Vehicle → Closing → Session
+sessionIn s v z = sessionOf s (trackOf v z)
 
 -- ---- the table of refusals
 
@@ -59,7 +54,7 @@ decideGears r limit s background gs ws =
     (finishBy r limit (selectionBy r (selectedIn s background gs ws (choiceOf (r .«a_ref» .0) (r .«a_urban» .0) gs))))
 
 -- rows 6 to 10, for a whole sheet of PMR q (in tenths)
-unfoldable pub decideWhole : Track → ℕ → ℕ → Decision
+unfoldable pub decideWhole : Session → ℕ → ℕ → Decision
 decideWhole t q limit =
     cond (ltb q 50 || ltb 6000 q) (Refused refusal.PmrOutOfRange)
     (cond (not (anyRun (t .sheet))) (Refused refusal.NoRun)
@@ -72,7 +67,7 @@ decideBy s examination.WrongSize = Refused refusal.WrongSize
 decideBy s examination.NoVehicle = Refused refusal.NoVehicle
 decideBy s (examination.NoClosing n) = Refused (refusal.NoClosing n)
 decideBy s (examination.BrokenRecord n) = Refused (refusal.BrokenRecord n)
-decideBy s (examination.Whole v z) = decideWhole (trackIn s v z) (pmrOf (v .power) (v .mass)) (v .limit)
+decideBy s (examination.Whole v z) = decideWhole (sessionIn s v z) (pmrOf (v .power) (v .mass)) (v .limit)
 
 unfoldable pub decisionOf : List ℕ → Decision
 decisionOf s = decideBy s (examined s)
@@ -83,11 +78,11 @@ decisionOf s = decideBy s (examined s)
 unfoldable pub sheetVehicle : List ℕ → Vehicle
 sheetVehicle s = vehicleIn (recordAt s 0)
 
-unfoldable pub sheetTrack : List ℕ → Track
-sheetTrack s = trackIn s (sheetVehicle s) (closingIn (recordAt s (lastOf s)))
+unfoldable pub sheetSession : List ℕ → Session
+sheetSession s = sessionIn s (sheetVehicle s) (closingIn (recordAt s (lastOf s)))
 
 unfoldable pub pmrIn : List ℕ → ℕ
 pmrIn s = pmrOf (sheetVehicle s .power) (sheetVehicle s .mass)
 
 unfoldable pub choiceIn : List ℕ → Choice
-choiceIn s = choiceOf (aRef (pmrIn s)) (aUrban (pmrIn s)) (gearsOf (sheetTrack s))
+choiceIn s = choiceOf (aRef (pmrIn s)) (aUrban (pmrIn s)) (gearsOf (sheetSession s))

@@ -1,1 +1,3 @@
+pub mod Selection
+pub mod Sound
 pub mod Decision

@@ -9,12 +9,12 @@ use lib.Dec.{ltb}
 use borrow.Author.Tests.{ltb-true, ltb-false}
 use Rattle.units.specs.Rounding.{rounded}
 use Rattle.units.proofs.Rounding.{rounded-most}
-use Rattle.weighing.specs.declared.Reference.{Reference}
+use Rattle.reference.specs.declared.Reference.{Reference}
 use Rattle.urban.specs.Urban.{partPower}
 use Rattle.demand.specs.Fractions.{Frac, _over_, _⊖_, _⊗_, below}
 use Rattle.demand.specs.Figure.{Gear, Gears, one, pair, mean, exactK, exactWeighed, exactLevel, exactW, exactC, aPrime, exactKp, figure, Dk, Dp}
 use Rattle.demand.specs.Demand.{Straddled, reported, bound, Close}
-use Rattle.weighing.proofs.Weights.{byOrder, on-line, weighed-sum}
+use Rattle.urban.proofs.Weights.{byOrder, on-line, weighed-sum}
 use Rattle.demand.proofs.Near.{Near, rounded-near, scale, Shares, weighed-near}
 use Rattle.demand.proofs.Fractions.{Is, is-over, rebase, is-add, is-sub, is-mul, is-apart, is-le, is-below, is-larger}
 use Rattle.demand.proofs.Reported.{reportedK, reportedLevel, joined, reported-is, as-mean, joined-max}

@@ -6,12 +6,12 @@ use Prim.Native.Nat.{ℕ, _*_}
 use lib.Dec.{T, eqb}
 use Rattle.units.specs.Rounding.{rounded}
 use Rattle.units.specs.Tests.{allOf}
-use Rattle.acceleration.specs.Acceleration.{kOf}
-use Rattle.weighing.specs.declared.Reference.{Reference}
-use Rattle.outcome.specs.declared.Outcome.{Outcome}
-use Rattle.weighing.specs.Weighing.{weighedLevel, basisOf}
+use Rattle.gears.specs.Acceleration.{kOf}
+use Rattle.reference.specs.declared.Reference.{Reference}
+use Rattle.urban.specs.declared.Outcome.{Outcome}
+use Rattle.urban.specs.Weighing.{weighedLevel, basisOf}
 use Rattle.urban.specs.Urban.{partPower, lUrbanOf}
-use Rattle.outcome.specs.Outcome.{outcomeOf, flag}
+use Rattle.urban.specs.Outcome.{outcomeOf, flag}
 use Rattle.demand.specs.Fractions.{Frac, _over_, _⊕_, _⊖_, _⊗_, below, larger, apart}
 use Rattle.demand.specs.Figure.{Gear, Gears, one, pair, mean, exactK, exactWeighed, exactLevel, exactW, exactC, aPrime, exactKp, figure, Dk, Dp}
 use Rattle.demand.specs.Demand.{chosenOf, reported, bound}

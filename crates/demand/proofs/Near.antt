@@ -5,7 +5,7 @@ use native.Mathlib.Nat.{mul-le-mul-left, mul-le-mul, le-dest}
 use native.Mathlib.Omega.{arith}
 use Rattle.units.specs.Rounding.{rounded}
 use Rattle.units.proofs.Rounding.{rounded-bounds}
-use Rattle.weighing.proofs.Weights.{byOrder}
+use Rattle.urban.proofs.Weights.{byOrder}
 
 -- x and y differ by at most e
 pub record Near (x y e : ℕ) : Type 0 where

@@ -9,15 +9,15 @@ use borrow.Author.Tests.{ltb-true, ltb-false}
 use Rattle.units.specs.Rounding.{rounded}
 use Rattle.units.proofs.Rounding.{rounded-same, rounded-most}
 use Rattle.units.proofs.Tests.{chosen}
-use Rattle.acceleration.specs.Acceleration.{kOf}
-use Rattle.weighing.specs.declared.Reference.{Reference}
+use Rattle.gears.specs.Acceleration.{kOf}
+use Rattle.reference.specs.declared.Reference.{Reference}
 use Rattle.urban.specs.declared.LUrban.{LUrban}
-use Rattle.weighing.specs.Weighing.{weighedLevel, basisOf}
+use Rattle.urban.specs.Weighing.{weighedLevel, basisOf}
 use Rattle.urban.specs.Urban.{partPower, lUrbanOf}
-use Rattle.outcome.specs.Outcome.{outcomeOf}
+use Rattle.urban.specs.Outcome.{outcomeOf}
 use Rattle.demand.specs.Figure.{Gear, Gears, one, pair, aPrime}
 use Rattle.demand.specs.Demand.{chosenOf, reported}
-use Rattle.weighing.proofs.Weights.{on-line}
+use Rattle.urban.proofs.Weights.{on-line}
 
 -- a pair's reported k
 unfoldable pub reportedK : Reference → Gear → Gear → ℕ

@@ -5,10 +5,10 @@ use native.Mathlib.Nat.{mul-le-mul-left, mul-le-mul-right}
 use native.Mathlib.Omega.{arith}
 use Rattle.units.specs.Rounding.{rounded}
 use Rattle.units.proofs.Rounding.{rounded-rising}
-use Rattle.weighing.specs.Weighing.{weighedLevel}
+use Rattle.urban.specs.Weighing.{weighedLevel}
 use Rattle.demand.specs.Figure.{one, pair, aPrime}
 use Rattle.demand.specs.Demand.{Rising}
-use Rattle.weighing.proofs.Weights.{weighed-sum}
+use Rattle.urban.proofs.Weights.{weighed-sum}
 use Rattle.urban.proofs.PartPower.{kp-most}
 use Rattle.demand.proofs.Reported.{reportedK, reportedLevel, joined, reported-is, joined-max, k-most}
 

@@ -2,11 +2,11 @@
 use mathlib.Core.Path.{_≡_}
 use Prim.Native.Nat.{ℕ, _≤_, _<_}
 use Rattle.units.specs.Rounding.{rounded}
-use Rattle.acceleration.specs.Acceleration.{kOf}
-use Rattle.weighing.specs.declared.Reference.{Reference}
-use Rattle.weighing.specs.declared.Chosen.{Chosen}
-use Rattle.weighing.specs.declared.Chosen.the-variants.{One, Pair}
-use Rattle.outcome.specs.Outcome.{outcomeOf}
+use Rattle.gears.specs.Acceleration.{kOf}
+use Rattle.reference.specs.declared.Reference.{Reference}
+use Rattle.urban.specs.declared.Chosen.{Chosen}
+use Rattle.urban.specs.declared.Chosen.the-variants.{One, Pair}
+use Rattle.urban.specs.Outcome.{outcomeOf}
 use Rattle.demand.specs.Fractions.{Frac, _over_, _⊕_, _⊗_, _≼_, apart}
 use Rattle.demand.specs.Figure.{Gear, Gears, one, pair, figure, Dk, Dp}
 

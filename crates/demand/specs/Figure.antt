@@ -3,7 +3,7 @@
 use Prim.Native.Nat.{ℕ, _-_}
 use mathlib.Core.Bool.{cond}
 use lib.Dec.{ltb}
-use Rattle.weighing.specs.declared.Reference.{Reference}
+use Rattle.reference.specs.declared.Reference.{Reference}
 use Rattle.demand.specs.Fractions.{Frac, _over_, _⊕_, _⊖_, _⊗_, below, larger, apart}
 
 -- A chosen gear: its number, its acceleration, and for each of its two windows the sum of the four corrected levels, in tenths, on the

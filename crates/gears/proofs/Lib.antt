@@ -1,1 +1,7 @@
+pub mod Accelerations
+mod AccelerationExamples
 pub mod Places
+pub mod Nearest
+pub mod Last
+pub mod Choices
+mod RulesExamples

@@ -1,1 +1,4 @@
+pub mod Acceleration
 pub mod Remaining
+pub mod Nearest
+pub mod Rules

@@ -9,7 +9,7 @@ use lib.Ieee.Fits.{down-pos}
 use borrow.Author.Tests.{ltb-false}
 use Rattle.units.specs.Rounding.{rounded}
 use Rattle.units.proofs.Rounding.{rounded-rising}
-use Rattle.reading.specs.Range.{inRange}
+use Rattle.level.specs.Range.{inRange}
 use Rattle.level.specs.Level.{tenthsOf}
 use Rattle.level.proofs.Scaled.{ends}
 

@@ -15,7 +15,7 @@ use lib.Ieee.Scale as Scale
 use lib.Ieee.Back.{unsigned-back}
 use Rattle.units.specs.Rounding.{rounded}
 use Rattle.units.proofs.Rounding.{rounded-same}
-use Rattle.reading.specs.Range.{inRange}
+use Rattle.level.specs.Range.{inRange}
 use Rattle.level.specs.Level.{tenthsOf}
 
 -- ---- the ends of the range, of a positive float

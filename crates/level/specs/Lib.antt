@@ -1,1 +1,4 @@
+pub mod Range
+pub mod Reading
 pub mod Level
+pub mod Correction

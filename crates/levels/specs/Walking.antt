@@ -2,12 +2,12 @@
 use Prim.Native.Nat.{ℕ, _+_, _*_}
 use mathlib.Core.Bool.{Bool, cond}
 use lib.Dec.{ltb, leb}
-use Rattle.reading.specs.Range.{inRange}
+use Rattle.level.specs.Range.{inRange}
 use Rattle.level.specs.Level.{tenthsOf}
-use Rattle.reading.specs.declared.Reading.{Reading}
-use Rattle.reading.specs.declared.Reading.the-variants.{Level, Overload, Absent}
-use Rattle.reading.specs.declared.Found.{Found}
-use Rattle.reading.specs.declared.Found.the-variants.{Good, Broken}
+use Rattle.level.specs.declared.Reading.{Reading}
+use Rattle.level.specs.declared.Reading.the-variants.{Level, Overload, Absent}
+use Rattle.level.specs.declared.Found.{Found}
+use Rattle.level.specs.declared.Found.the-variants.{Good, Broken}
 
 -- the tenths of what was read; 0 where it is no level in range
 unfoldable pub tenthsRead : Reading → ℕ

@@ -1,11 +1,11 @@
 // Goes through every 32-bit float from 20.0 to 140.0. Compares the tenths that `level` gives with a reckoning in whole numbers that goes
 // from one float to the next, and prints what it found for each ten decibels. Then some patterns of no level.
 use libc::STDOUT_FILENO;
-use reading::Found;
-use reading::Reading;
+use level::Found;
+use level::Reading;
 ghost use mathlib.Core.Path.{_≡_};
 ghost use Prim.Native.Nat.{_+_, _≤_, _<_};
-ghost use Rattle.reading.specs.Reading.{readingOf};
+ghost use Rattle.level.specs.Reading.{readingOf};
 ghost use Rattle.units.specs.Bytes.{number};
 ghost use Rattle.levels.specs.Walking.{tenthsRead, tenthsFound, spacing, reached};
 
@@ -58,7 +58,7 @@ fn tenths_read(reading: Reading) -> u16
 {
     match reading {
         Reading::Level(x) => {
-            if reading::in_range(x) {
+            if level::in_range(x) {
                 level::tenths(x).0
             } else {
                 0
@@ -73,7 +73,7 @@ fn tenths_read(reading: Reading) -> u16
 fn tenths_of(four: &[u8; 4]) -> u16
     ensures { λ r. ⌜ r ≡ tenthsFound (readingOf 1 (number (now (four .entry)) 0 4)) ⌝ }
 {
-    match reading::reading_at(1, four, 0) {
+    match level::reading_at(1, four, 0) {
         Found::Good(reading) => tenths_read(reading),
         Found::Broken => 0,
     }

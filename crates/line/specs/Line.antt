@@ -2,7 +2,7 @@
 use Prim.Native.Nat.{ℕ}
 use mathlib.Core.List.{List, [], _∷_, _++_}
 use Rattle.text.specs.Text.{spaced}
-use Rattle.fields.specs.Fields.{outcomeIn, fieldsOf}
+use Rattle.result.specs.Fields.{outcomeIn, fieldsOf}
 use Rattle.refusal.specs.Refusal.{numberOf, placeOf}
 use Rattle.refusal.specs.declared.Answer.{Answer}
 use Rattle.refusal.specs.declared.Answer.the-variants.{Accepted, Refused}

@@ -3,7 +3,7 @@ use refusal::Answer;
 ghost use mathlib.Core.Path.{_≡_};
 ghost use Prim.Native.Nat.{_≤_};
 ghost use lib.ListN.{length, take};
-ghost use Rattle.fields.specs.Fields.{outcomeIn, fieldsOf};
+ghost use Rattle.result.specs.Fields.{outcomeIn, fieldsOf};
 ghost use Rattle.line.specs.Line.{lineOf};
 
 // The 13 fields of the result record as they are printed, pass last.
@@ -11,7 +11,7 @@ fn numbers_of(result: &[u8]) -> [u64; 13]
     requires { ⌜ 32 ≤ length (now result) ⌝ }
     ensures { λ r. ⌜ r ≡ fieldsOf (outcomeIn (now (result .entry))) ⌝ }
 {
-    let o = fields::read_back(result);
+    let o = result::read_back(result);
     let pass = if o.pass { 1 } else { 0 };
     [
         o.rule as u64,

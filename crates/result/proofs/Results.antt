@@ -6,7 +6,7 @@ use native.Mathlib.Nat.{div-add-mod}
 use native.Mathlib.Omega.{arith}
 use lib.ListN.{length}
 use Rattle.units.specs.Bytes.{number}
-use Rattle.outcome.specs.declared.Outcome.{Outcome}
+use Rattle.urban.specs.declared.Outcome.{Outcome}
 use Rattle.result.specs.Result.{lowByte, highByte, resultBytes}
 
 -- the two bytes of a number, low byte first, are the number

@@ -1,8 +1,8 @@
 -- The result record (document 01, end of "L_urban"): 32 bytes, 16-bit numbers low byte first.
 use Prim.Native.Nat.{ℕ, _/_, _%_}
 use mathlib.Core.List.{List, [], _∷_}
-use Rattle.outcome.specs.declared.Outcome.{Outcome}
-use Rattle.outcome.specs.Outcome.{flag}
+use Rattle.urban.specs.declared.Outcome.{Outcome}
+use Rattle.urban.specs.Outcome.{flag}
 
 abbrev pub lowByte : ℕ → ℕ
 lowByte n = n % 256

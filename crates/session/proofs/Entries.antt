@@ -5,22 +5,22 @@ use native.Mathlib.Nat.{le-of-suc-le-suc, not-suc-le-zero}
 use native.Mathlib.Omega.{arith}
 use lib.ListN.{length, getD, length-map, List·getD-map}
 use Rattle.units.proofs.Tests.{chosen}
-use Rattle.four.specs.declared.Four.{Four}
+use Rattle.window.specs.declared.Four.{Four}
 use Rattle.window.specs.declared.Window.{Window}
 use Rattle.window.specs.declared.Window.the-variants as window
 use Rattle.gears.specs.declared.Gear.{Gear}
-use Rattle.state.specs.declared.State.{State}
-use Rattle.state.specs.declared.State.the-variants.{Remains, Dropped, NoWindow, NoRun}
-use Rattle.state.specs.State.{Track, windowOf, slowEnough, gearAcceleration, byWindow, stateOf}
+use Rattle.session.specs.declared.State.{State}
+use Rattle.session.specs.declared.State.the-variants.{Remains, Dropped, NoWindow, NoRun}
+use Rattle.session.specs.State.{Session, windowOf, slowEnough, gearAcceleration, byWindow, stateOf}
 use Rattle.session.specs.Table.{Entry, ahead, remainingFrom, remaining, gearsOf, windowsOf}
-use Rattle.presence.specs.Presence.{hasRun}
+use Rattle.sheet.specs.Presence.{hasRun}
 
 -- gear g remains in t with the acceleration window f
-pub record Remaining (t : Track) (g : Gear) (f : Four) : Type 0 where
+pub record Remaining (t : Session) (g : Gear) (f : Four) : Type 0 where
   pub window-is : windowOf (t .sheet) (t .background) 2 (g .number) ≡ window.Runs f
   pub acceleration-is : g .acceleration .0 ≡ gearAcceleration (t .path) f
 
-module _ (t : Track) where
+module _ (t : Session) where
   from-window : (n : ℕ) (w : Window) (g : Gear) (f : Four) → windowOf (t .sheet) (t .background) 2 n ≡ w → byWindow (t .S) (t .path) n w ≡ Remains g f → Remaining t g f
   unfolding byWindow
   from-window n window.Nothing g f p e = absurd (let z : _≡_ {A = ℕ} 0 1 = cc in omega arith)

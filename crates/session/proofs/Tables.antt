@@ -5,14 +5,14 @@ use Prim.Native.Nat.{ℕ, suc, _+_, _-_, _≤_, _<_}
 use native.Mathlib.Omega.{arith}
 use lib.ListN.{length, take, set}
 use Rattle.units.proofs.Gathering.{gather, gathered}
-use Rattle.four.specs.declared.Four.{Four}
+use Rattle.window.specs.declared.Four.{Four}
 use Rattle.gears.specs.declared.Gear.{Gear}
-use Rattle.state.specs.declared.State.{State}
-use Rattle.state.specs.declared.State.the-variants.{Remains}
-use Rattle.state.specs.State.{Track, stateOf}
+use Rattle.session.specs.declared.State.{State}
+use Rattle.session.specs.declared.State.the-variants.{Remains}
+use Rattle.session.specs.State.{Session, stateOf}
 use Rattle.session.specs.Table.{Entry, ahead, remainingFrom, remaining}
 
-module _ (t : Track) {A : Type 0} (part : Entry → A) where
+module _ (t : Session) {A : Type 0} (part : Entry → A) where
   step : (p : ℕ) → p < 16 → remainingFrom t p (16 - p) ≡ ahead (stateOf t (p + 1)) (remainingFrom t (p + 1) (16 - (p + 1)))
   unfolding remainingFrom
   step p h = let more : 16 - p ≡ suc (16 - (p + 1)) = omega arith in rw more

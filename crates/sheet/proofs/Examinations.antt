@@ -9,15 +9,15 @@ use lib.ListN.{length}
 use borrow.Author.Tests.{eqb-true, eqb-false, ltb-false, not-false, eq-eqb, ne-eqb, lt-ltb, le-ltb}
 use Rattle.units.proofs.Lowest.{found}
 use Rattle.units.proofs.Tests.{chosen, neither}
-use Rattle.vehicle.specs.declared.Vehicle.{Vehicle}
-use Rattle.closing.specs.declared.Closing.{Closing}
+use Rattle.record.specs.declared.Vehicle.{Vehicle}
+use Rattle.record.specs.declared.Closing.{Closing}
 use Rattle.sheet.specs.declared.Examination.{Examination}
 use Rattle.sheet.specs.declared.Examination.the-variants.{Whole, WrongSize, NoVehicle, NoClosing, BrokenRecord}
-use Rattle.records.specs.Records.{records, recordAt}
-use Rattle.records.specs.Fields.{byte, word}
-use Rattle.vehicle.specs.Vehicle.{vehicleGood, vehicleIn}
-use Rattle.closing.specs.Closing.{closingGood, closingIn}
-use Rattle.run_record.specs.Layout.{runGood}
+use Rattle.record.specs.Records.{records, recordAt}
+use Rattle.record.specs.Fields.{byte, word}
+use Rattle.record.specs.Vehicle.{vehicleGood, vehicleIn}
+use Rattle.record.specs.Closing.{closingGood, closingIn}
+use Rattle.record.specs.Layout.{runGood}
 use Rattle.sheet.specs.Examining.{lastOf, wrongSize, noVehicle, noClosing, goodAt, lowestBroken, examined}
 
 -- ---- the size

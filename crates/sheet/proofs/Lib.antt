@@ -1,1 +1,2 @@
 pub mod Examinations
+pub mod Presence

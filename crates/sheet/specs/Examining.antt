@@ -7,11 +7,11 @@ use lib.ListN.{length}
 use Rattle.units.specs.Lowest.{lowest}
 use Rattle.sheet.specs.declared.Examination.{Examination}
 use Rattle.sheet.specs.declared.Examination.the-variants.{Whole, WrongSize, NoVehicle, NoClosing, BrokenRecord}
-use Rattle.records.specs.Records.{records, recordAt}
-use Rattle.records.specs.Fields.{byte, word}
-use Rattle.vehicle.specs.Vehicle.{vehicleGood, vehicleIn}
-use Rattle.closing.specs.Closing.{closingGood, closingIn}
-use Rattle.run_record.specs.Layout.{runGood}
+use Rattle.record.specs.Records.{records, recordAt}
+use Rattle.record.specs.Fields.{byte, word}
+use Rattle.record.specs.Vehicle.{vehicleGood, vehicleIn}
+use Rattle.record.specs.Closing.{closingGood, closingIn}
+use Rattle.record.specs.Layout.{runGood}
 
 -- the number of the last record
 abbrev pub lastOf : List ℕ → ℕ

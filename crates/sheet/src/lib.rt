@@ -1,11 +1,16 @@
 // A session's sheet: any byte string examined as one, and the refusals that come before any evaluation.
-use closing::Closing;
-use records::Record;
-use vehicle::Vehicle;
+// Which gears of a whole sheet have an acceleration run.
+use record::Closing;
+use record::Record;
+use record::Vehicle;
 ghost use mathlib.Core.Path.{_≡_};
-ghost use Prim.Native.Nat.{_<_};
-ghost use Rattle.records.specs.Records.{records};
+ghost use Prim.Native.Nat.{_<_, ℕ, _≤_};
+ghost use Rattle.record.specs.Records.{records};
 ghost use Rattle.sheet.specs.Examining.{lastOf, wrongSize, noVehicle, noClosing, goodAt, lowestBroken, examined};
+ghost use mathlib.Core.Bool.{false};
+ghost use lib.ListN.{getD};
+ghost use Rattle.record.specs.Runs.{RunsGood};
+ghost use Rattle.sheet.specs.Presence.{anyRun, hasRun};
 
 // What an examination finds: a whole sheet, or the first cause of a refusal with its place.
 pub enum Examination {
@@ -52,12 +57,12 @@ fn good_at(sheet: &[u8], number: usize, last: usize) -> bool
 {
     let r = Record::at(sheet, number);
     if number == 0 {
-        return vehicle::vehicle_good(r);
+        return record::vehicle_good(r);
     }
     if number == last {
-        return closing::closing_good(r);
+        return record::closing_good(r);
     }
-    run_record::run_good(r)
+    record::run_good(r)
 }
 
 fn lowest_broken(sheet: &[u8], count: usize) -> usize
@@ -94,7 +99,43 @@ pub fn examine(sheet: &[u8]) -> Examination
     if broken < count {
         return Examination::BrokenRecord(broken);
     }
-    let vehicle = vehicle::vehicle_in(Record::at(sheet, 0));
-    let closing = closing::closing_in(Record::at(sheet, count - 1));
+    let vehicle = record::vehicle_in(Record::at(sheet, 0));
+    let closing = record::closing_in(Record::at(sheet, count - 1));
     Examination::Whole(vehicle, closing)
+}
+
+// Whether a sheet has an acceleration run.
+pub fn any_run(sheet: &[u8]) -> bool
+    requires { ⌜ RunsGood (now sheet) ⌝ }
+    ensures { λ r. ⌜ r ≡ anyRun (now (sheet .entry)) ⌝ }
+{
+    let last = sheet.len() / Record::SIZE - 1;
+    let mut i = 1;
+    while i < last {
+        let r = Record::at(sheet, i);
+        if r[0] == Record::ACCELERATION {
+            return true;
+        }
+        i += 1;
+    }
+    false
+}
+
+// Which gears have an acceleration run.
+pub fn present(sheet: &[u8]) -> [bool; 17]
+    requires { ⌜ RunsGood (now sheet) ⌝ }
+    ensures { λ r. ⌜ ((g : ℕ) → g ≤ 16 → getD r g false ≡ hasRun (now (sheet .entry)) g) ⌝ }
+{
+    let last = sheet.len() / Record::SIZE - 1;
+    let mut seen = [false; 17];
+    let mut i = 1;
+    while i < last {
+        let r = Record::at(sheet, i);
+        if r[0] == Record::ACCELERATION {
+            let gear = r[1] as usize;
+            seen[gear] = true;
+        }
+        i += 1;
+    }
+    seen
 }

@@ -10,15 +10,15 @@ use lib.Seq.{sets}
 use Rattle.units.specs.Bytes.{number}
 use Rattle.units.specs.Lowest.{lowest}
 use Rattle.units.specs.Tests.{allOf}
-use Rattle.reading.specs.Range.{inRange}
-use Rattle.reading.specs.Reading.{readingOf}
+use Rattle.level.specs.Range.{inRange}
+use Rattle.level.specs.Reading.{readingOf}
 use Rattle.sheet.specs.declared.Examination.{Examination}
 use Rattle.sheet.specs.declared.Examination.the-variants.{Whole, WrongSize, NoVehicle, NoClosing, BrokenRecord}
-use Rattle.records.specs.Records.{records, recordAt}
-use Rattle.records.specs.Fields.{zeros}
-use Rattle.vehicle.specs.Vehicle.{vehicleTests, vehicleGood}
-use Rattle.closing.specs.Closing.{closingTests, closingGood}
-use Rattle.run_record.specs.Layout.{runTests, runGood}
+use Rattle.record.specs.Records.{records, recordAt}
+use Rattle.record.specs.Fields.{zeros}
+use Rattle.record.specs.Vehicle.{vehicleTests, vehicleGood}
+use Rattle.record.specs.Closing.{closingTests, closingGood}
+use Rattle.record.specs.Layout.{runTests, runGood}
 use Rattle.sheet.specs.Examining.{wrongSize, noVehicle, noClosing, goodAt, lowestBroken, examined}
 
 -- an outcome as one number: the refusal's number and its place

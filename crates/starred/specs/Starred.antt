@@ -5,25 +5,25 @@ use Prim.Native.Nat.{ℕ, zero, suc, _+_, _%_, _/_}
 use mathlib.Core.List.{List, [], _∷_, _++_, map}
 use lib.Ieee.{binary32, ofBits}
 use lib.ListN.{replicate}
-use Rattle.side.specs.declared.Side.{Side}
-use Rattle.side.specs.declared.Side.the-variants as side
+use Rattle.level.specs.declared.Side.{Side}
+use Rattle.level.specs.declared.Side.the-variants as side
 use Rattle.level.specs.Level.{tenthsOf}
-use Rattle.side.specs.Correction.{correctedSide}
+use Rattle.level.specs.Correction.{correctedSide}
 use Rattle.reference.specs.Reference.{aUrban, aRef}
-use Rattle.four.specs.declared.ValidRun.{ValidRun}
+use Rattle.window.specs.declared.ValidRun.{ValidRun}
 use Rattle.window.specs.Windows.{firstWindow}
 use Rattle.gears.specs.declared.Gear.{Gear}
-use Rattle.rules.specs.declared.Choice.{Choice}
-use Rattle.rules.specs.declared.Choice.the-variants as choice
-use Rattle.acceleration.specs.Acceleration.{accelerationOf}
-use Rattle.rules.specs.Rules.{choiceOf}
+use Rattle.gears.specs.declared.Choice.{Choice}
+use Rattle.gears.specs.declared.Choice.the-variants as choice
+use Rattle.gears.specs.Acceleration.{accelerationOf}
+use Rattle.gears.specs.Rules.{choiceOf}
 use Rattle.urban.specs.Urban.{lUrbanOf}
 use Rattle.decision.specs.declared.Decision.{Decision}
 use Rattle.decision.specs.declared.Decision.the-variants as decision
 use Rattle.refusal.specs.Refusal.{numberOf, placeOf}
-use Rattle.fields.specs.Fields.{fieldsOf}
+use Rattle.result.specs.Fields.{fieldsOf}
 use Rattle.decision.specs.Decision.{decisionOf}
-use Rattle.promises.specs.Demand.{numbersIn}
+use Rattle.evaluation.specs.Demand.{numbersIn}
 
 pub data Example : Type 0 where
   -- the pattern of a float; its tenths

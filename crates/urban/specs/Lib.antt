@@ -1,1 +1,3 @@
+pub mod Weighing
 pub mod Urban
+pub mod Outcome

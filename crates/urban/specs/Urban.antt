@@ -3,7 +3,7 @@ use Prim.Native.Nat.{ℕ, _-_, _*_}
 use mathlib.Core.Bool.{cond}
 use lib.Dec.{ltb}
 use Rattle.units.specs.Rounding.{rounded}
-use Rattle.weighing.specs.declared.Reference.{Reference}
+use Rattle.reference.specs.declared.Reference.{Reference}
 use Rattle.urban.specs.declared.LUrban.{LUrban}
 
 -- kp = 1 − a_urban / a', which is (a' − a_urban) / a', rounded as a whole to hundredths; 0 for an a' below a_urban

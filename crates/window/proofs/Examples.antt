@@ -6,10 +6,10 @@ use lib.Dec.{T, eqb}
 use Rattle.units.specs.Rounding.{rounded}
 use Rattle.units.specs.Lowest.{lowest}
 use Rattle.units.specs.Tests.{allOf}
-use Rattle.four.specs.declared.ValidRun.{ValidRun}
+use Rattle.window.specs.declared.ValidRun.{ValidRun}
 use Rattle.window.specs.declared.Window.{Window}
 use Rattle.window.specs.declared.Window.the-variants.{Runs, Nothing}
-use Rattle.four.specs.Four.{spanned, fitting, largerSum, conditionLevel}
+use Rattle.window.specs.Four.{spanned, fitting, largerSum, conditionLevel}
 use Rattle.window.specs.Windows.{noRun, fourAt, firstPlace, firstWindow}
 
 run : ℕ → ℕ → ℕ → ValidRun

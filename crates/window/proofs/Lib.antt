@@ -1,3 +1,4 @@
 pub mod Searches
 pub mod Parts
 mod Examples
+mod Walking

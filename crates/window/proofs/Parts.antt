@@ -9,11 +9,11 @@ use lib.ListN.{length, getD, drop, length-append, length-drop, List·getD-append
 use lib.Seq.{getD-drop, drop-append-le}
 use borrow.Author.Tests.{lt-ltb, le-ltb, ltb-true, ltb-false}
 use Rattle.units.proofs.Lowest.{lowest-is}
-use Rattle.four.specs.declared.ValidRun.{ValidRun}
-use Rattle.four.specs.declared.Four.{Four}
+use Rattle.window.specs.declared.ValidRun.{ValidRun}
+use Rattle.window.specs.declared.Four.{Four}
 use Rattle.window.specs.declared.Window.{Window}
 use Rattle.window.specs.declared.Window.the-variants.{Runs, Nothing}
-use Rattle.four.specs.Four.{fitting}
+use Rattle.window.specs.Four.{fitting}
 use Rattle.window.specs.Windows.{noRun, fourAt, firstPlace, firstWindow}
 use Rattle.window.proofs.Searches.{first-is, none-is}
 

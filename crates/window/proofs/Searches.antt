@@ -9,11 +9,11 @@ use lib.Dec.{ltb}
 use borrow.Author.Tests.{lt-ltb, le-ltb, ltb-true, ltb-false}
 use Rattle.units.proofs.Lowest.{Lowest, found, Passed, passed-start, passed-next, passed-stop, passed-end}
 use Rattle.units.proofs.Tests.{chosen}
-use Rattle.four.specs.declared.ValidRun.{ValidRun}
-use Rattle.four.specs.declared.Four.{Four}
+use Rattle.window.specs.declared.ValidRun.{ValidRun}
+use Rattle.window.specs.declared.Four.{Four}
 use Rattle.window.specs.declared.Window.{Window}
 use Rattle.window.specs.declared.Window.the-variants.{Runs, Nothing}
-use Rattle.four.specs.Four.{fitting}
+use Rattle.window.specs.Four.{fitting}
 use Rattle.window.specs.Windows.{fourAt, firstPlace, firstWindow}
 
 module _ (rest : List ValidRun) where

@@ -5,9 +5,9 @@ use mathlib.Core.List.{List}
 use lib.Dec.{ltb}
 use lib.ListN.{length, getD}
 use Rattle.units.specs.Lowest.{lowest}
-use Rattle.four.specs.declared.ValidRun.{ValidRun}
-use Rattle.four.specs.declared.Four.{Four}
-use Rattle.four.specs.Four.{fitting}
+use Rattle.window.specs.declared.ValidRun.{ValidRun}
+use Rattle.window.specs.declared.Four.{Four}
+use Rattle.window.specs.Four.{fitting}
 use Rattle.window.specs.declared.Window.{Window}
 use Rattle.window.specs.declared.Window.the-variants.{Runs, Nothing}
 

@@ -6,17 +6,17 @@ use mathlib.Core.List.{List}
 use Prim.Native.Nat.{ℕ}
 use lib.ListN.{length, take}
 use Rattle.gears.specs.declared.Gear.{Gear}
-use Rattle.rules.specs.declared.Choice.{Choice}
+use Rattle.gears.specs.declared.Choice.{Choice}
 use Rattle.gears.proofs.Places.{counted}
-use Rattle.rules.specs.Rules.{Selectable}
-use Rattle.rules.proofs.Choices.{sound}
-use Rattle.four.specs.declared.Four.{Four}
+use Rattle.gears.specs.Rules.{Selectable}
+use Rattle.gears.proofs.Choices.{sound}
+use Rattle.window.specs.declared.Four.{Four}
 use Rattle.refusal.specs.declared.Refusal.the-variants.{NotFalling}
 use Rattle.decision.specs.declared.Decision.the-variants.{Refused}
-use Rattle.selection.specs.Sound.{Weighable}
-use Rattle.selection.specs.Selection.{gearAt, selectedIn, selectionBy}
+use Rattle.decision.specs.Sound.{Weighable}
+use Rattle.decision.specs.Selection.{gearAt, selectedIn, selectionBy}
 use Rattle.decision.specs.Decision.{finishBy}
-use Rattle.selection.proofs.Selections.{gear-taken, straddling, weighable}
+use Rattle.decision.proofs.Selections.{gear-taken, straddling, weighable}
 use Rattle.decision.proofs.Decisions.{first-most, row-8, rows-9-and-10}
 use Rattle.decision.proofs.decide_table.Statement.{statement}
 use Rattle.decision.proofs.decide_table.Tie as tie
@@ -49,7 +49,7 @@ returns c =
     let p = c .before .before .first-not-falling .result in
     ap (λ (g : Gear). Refused (NotFalling (g .number))) (sym (gear-taken (s .args .t5) (s .args .count) p (omega arith)))
     ∙ ap (λ (n : ℕ). Refused (NotFalling (gearAt (gs s) n .number))) found
-    ∙ sym (row-8 (s .args .reference) (s .args .limit) (s .args .sheet .now) (s .args .background .0) (gs s) (ws s) (omega (arith, found, size s)))
+    ∙ sym (row-8 (s .args .reference) (s .args .limit) (s .args .sheet .now) (s .args .track .background .0) (gs s) (ws s) (omega (arith, found, size s)))
 
 choose-requires : tie.Need-choose-requires
 choose-requires c κs = search needs
@@ -64,15 +64,15 @@ finish-with-requires c κs =
     let s = c .before .before .before .before .before in
     let d = c .before .choose .result in
     let fine = subst (Selectable (s .args .reference .«a_ref» .0) (gs s)) (sym (c .before .choose .ensures)) (sound (s .args .reference .«a_ref» .0) (s .args .reference .«a_urban» .0) (gs s)) in
-    subst (Weighable (s .args .reference)) (sym (c .select .ensures)) (weighable (s .args .reference) _ (straddling (s .args .reference) (s .args .sheet .now) (s .args .background .0) (gs s) (ws s) d fine))
+    subst (Weighable (s .args .reference)) (sym (c .select .ensures)) (weighable (s .args .reference) _ (straddling (s .args .reference) (s .args .sheet .now) (s .args .track .background .0) (gs s) (ws s) d fine))
 
 returns-2 : tie.Need-returns-2
 returns-2 c =
     let s = c .before .before .before .before .before .before in
     let found = c .before .before .before .before .first-not-falling .ensures in
     c .finish-with .ensures
-    ∙ ap (finishBy (s .args .reference) (s .args .limit)) (c .before .select .ensures ∙ ap (λ (x : Choice). selectionBy (s .args .reference) (selectedIn (s .args .sheet .now) (s .args .background .0) (gs s) (ws s) x)) (c .before .before .choose .ensures))
-    ∙ sym (rows-9-and-10 (s .args .reference) (s .args .limit) (s .args .sheet .now) (s .args .background .0) (gs s) (ws s) (omega (arith, found, size s)))
+    ∙ ap (finishBy (s .args .reference) (s .args .limit)) (c .before .select .ensures ∙ ap (λ (x : Choice). selectionBy (s .args .reference) (selectedIn (s .args .sheet .now) (s .args .track .background .0) (gs s) (ws s) x)) (c .before .before .choose .ensures))
+    ∙ sym (rows-9-and-10 (s .args .reference) (s .args .limit) (s .args .sheet .now) (s .args .track .background .0) (gs s) (ws s) (omega (arith, found, size s)))
 
 pub decide-table-spec : {M : Type 1} → statement M
 decide-table-spec =

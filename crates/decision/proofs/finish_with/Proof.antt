@@ -2,7 +2,7 @@
 use borrow.Author.Needs.{needs}
 use mathlib.Core.Path.{sym, ap, subst, _∙_}
 use Rattle.decision.specs.declared.Decision.the-variants.{Result}
-use Rattle.selection.specs.Sound.{Weighable}
+use Rattle.decision.specs.Sound.{Weighable}
 use Rattle.decision.specs.Decision.{finishBy}
 use Rattle.decision.proofs.finish_with.Statement.{statement}
 use Rattle.decision.proofs.finish_with.Tie as tie

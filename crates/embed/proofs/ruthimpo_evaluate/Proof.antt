@@ -1,7 +1,7 @@
 -- `embed::ruthimpo_evaluate` meets its contract: each number is that of the answer which `evaluate` gives. Assumes nothing.
 use borrow.Author.Needs.{needs}
 use mathlib.Core.Path.{ap, _∙_}
-use Rattle.promises.specs.Causes.{refusalNumber}
+use Rattle.evaluation.specs.Causes.{refusalNumber}
 use Rattle.embed.specs.Calls.{refusalPlace}
 use Rattle.embed.proofs.ruthimpo_evaluate.Statement.{statement}
 use Rattle.embed.proofs.ruthimpo_evaluate.Tie as tie

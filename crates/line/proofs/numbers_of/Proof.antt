@@ -3,8 +3,8 @@ use borrow.Author.Needs.{needs}
 use mathlib.Core.Logic.{⊎-elim}
 use mathlib.Core.Path.{_≡_, sym, ap, _∙_}
 use mir.Facts.{fits-widen}
-use Rattle.outcome.specs.Outcome.{flag}
-use Rattle.fields.specs.Fields.{fieldsOf}
+use Rattle.urban.specs.Outcome.{flag}
+use Rattle.result.specs.Fields.{fieldsOf}
 use Rattle.line.proofs.numbers_of.Statement.{statement}
 use Rattle.line.proofs.numbers_of.Tie as tie
 

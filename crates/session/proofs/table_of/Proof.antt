@@ -9,18 +9,18 @@ use mathlib.Core.Logic.{⊎-elim}
 use Prim.Native.Nat.{ℕ, _+_, _-_, _≤_, _<_}
 use lib.ListN.{length, set, length-set}
 use Rattle.units.proofs.Lowest.{Passed, passed-start, passed-next, passed-stop, passed-end}
-use Rattle.four.specs.declared.Four.{Four}
+use Rattle.window.specs.declared.Four.{Four}
 use Rattle.gears.specs.declared.Gear.{Gear}
-use Rattle.state.specs.State.{Track, trackOf, stateOf}
+use Rattle.session.specs.State.{Session, sessionOf, stateOf}
 use Rattle.session.specs.Table.{Entry, lacking, ahead, lowestLacking, gearsOf, windowsOf}
 use Rattle.session.proofs.Tables.{Tabling, tabling-start, tabling-remains, tabling-other, tabling-all}
-use Rattle.state.specs.declared.State.{State}
-use Rattle.state.specs.declared.State.the-variants.{Remains, Dropped, NoRun}
+use Rattle.session.specs.declared.State.{State}
+use Rattle.session.specs.declared.State.the-variants.{Remains, Dropped, NoRun}
 use Rattle.session.proofs.table_of.Statement.{statement}
 use Rattle.session.proofs.table_of.Tie as tie
 
 -- a gear lacks a window
-abbrev lacks : Track → ℕ → Bool
+abbrev lacks : Session → ℕ → Bool
 lacks t p = lacking (stateOf t (p + 1))
 
 abbrev gear-of : Entry → Gear
@@ -30,7 +30,7 @@ abbrev window-of : Entry → Four
 window-of e = e .window
 
 -- the table so far, before place p
-record Ready (t : Track) (gears : List Gear) (windows : List Four) (count p : ℕ) : Type 0 where
+record Ready (t : Session) (gears : List Gear) (windows : List Four) (count p : ℕ) : Type 0 where
   gears-long : length gears ≡ 16
   windows-long : length windows ≡ 16
   few : count ≤ p
@@ -41,7 +41,7 @@ record Ready (t : Track) (gears : List Gear) (windows : List Four) (count p : �
 
 -- one place more
 
-module _ (t : Track) (gears : List Gear) (windows : List Four) (count p : ℕ) where
+module _ (t : Session) (gears : List Gear) (windows : List Four) (count p : ℕ) where
   ready-remains : (g : Gear) (f : Four) → p < 16 → stateOf t (p + 1) ≡ Remains g f → Ready t gears windows count p → Ready t (set gears count g) (set windows count f) (count + 1) (p + 1)
   ready-remains g f h e r =
       record {
@@ -67,10 +67,10 @@ module _ (t : Track) (gears : List Gear) (windows : List Four) (count p : ℕ) w
       }
 
 abbrev Inv-loop : tie.InvT-loop
-Inv-loop sheet background rated path seen gears₀ windows₀ count₀ p₀ gears windows count p = Ready (trackOf sheet (background .0) rated path) gears windows count p
+Inv-loop sheet track seen gears₀ windows₀ count₀ p₀ gears windows count p = Ready (sessionOf sheet track) gears windows count p
 
 abbrev μ-loop : tie.MeasureT-loop
-μ-loop sheet background rated path seen gears₀ windows₀ count₀ p₀ gears windows count p = 16 - p
+μ-loop sheet track seen gears₀ windows₀ count₀ p₀ gears windows count p = 16 - p
 
 present-requires : tie.Need-present-requires Inv-loop μ-loop
 present-requires c κs = search needs

@@ -7,11 +7,11 @@ use Prim.Native.Nat.{ℕ, _≤_, _<_}
 use native.Mathlib.Omega.{arith}
 use lib.ListN.{length}
 use Rattle.sheet.specs.declared.Examination.the-variants.{Whole, BrokenRecord}
-use Rattle.records.specs.Records.{records}
-use Rattle.vehicle.specs.Vehicle.{vehicleIn}
-use Rattle.closing.specs.Closing.{closingIn}
+use Rattle.record.specs.Records.{records}
+use Rattle.record.specs.Vehicle.{vehicleIn}
+use Rattle.record.specs.Closing.{closingIn}
 use Rattle.sheet.specs.Examining.{lastOf, wrongSize, noVehicle, noClosing}
-use Rattle.records.proofs.Shown.{record-long}
+use Rattle.record.proofs.Shown.{record-long}
 use Rattle.sheet.proofs.Examinations.{Sized, sized, row-2, row-3, row-4, row-5, no-row}
 use Rattle.sheet.proofs.examine.Statement.{statement}
 use Rattle.sheet.proofs.examine.Tie as tie

@@ -7,7 +7,7 @@ use Prim.Native.Nat.{ℕ, _-_}
 use Rattle.units.specs.Lowest.{lowest}
 use Rattle.units.proofs.Lowest.{Passed, passed-start, passed-next, passed-stop, passed-end}
 use Rattle.sheet.specs.Examining.{goodAt, lowestBroken}
-use Rattle.records.specs.Records.{records}
+use Rattle.record.specs.Records.{records}
 use Rattle.sheet.proofs.lowest_broken.Statement.{statement}
 use Rattle.sheet.proofs.lowest_broken.Tie as tie
 

@@ -4,7 +4,7 @@ use mathlib.Core.Path.{ap}
 use native.Mathlib.Omega.{arith}
 use lib.ListN.{length}
 use Rattle.sheet.specs.Examining.{noVehicle}
-use Rattle.records.proofs.Shown.{record-long}
+use Rattle.record.proofs.Shown.{record-long}
 use Rattle.sheet.proofs.no_vehicle.Statement.{statement}
 use Rattle.sheet.proofs.no_vehicle.Tie as tie
 

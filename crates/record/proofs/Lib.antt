@@ -1,0 +1,6 @@
+pub mod Shown
+pub mod Fields
+pub mod VehicleRanges
+pub mod ClosingRanges
+pub mod Readings
+pub mod Layouts
