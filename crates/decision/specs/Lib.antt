@@ -1,3 +1,1 @@
-pub mod Selection
-pub mod Sound
 pub mod Decision

@@ -1,203 +1,153 @@
-// The chosen gears with their levels, or the refusal of what they lack.
-// What a byte string decides on: the first refusal of the table whose cause holds, or the fields of the result.
+// What is decided for a byte string: the first refusal of the table whose cause holds (rows 2 to 10), or the fields of the result. No buffer is
+// known here.
 use gears::Choice;
 use gears::Gear;
 use record::Closing;
 use record::Record;
 use record::Vehicle;
+use reference::Reference;
 use refusal::Refusal;
+use session::Table;
 use session::Track;
 use sheet::Examination;
 use urban::Chosen;
-use urban::One;
+use urban::ChosenGear;
 use urban::Outcome;
-use urban::Pair;
-use reference::Reference;
 use window::Four;
 use window::Window;
 ghost use mathlib.Core.Path.{_≡_};
-ghost use Prim.Native.Nat.{_≤_, _<_, _+_};
-ghost use lib.ListN.{take};
-ghost use Rattle.record.specs.Runs.{RunsGood};
-ghost use Rattle.session.specs.State.{windowOf};
-ghost use Rattle.demand.specs.Figure.{pair};
-ghost use Rattle.decision.specs.Selection.{gears, weighedGear, selectOne, selectPair, selectedIn, selectionBy};
-ghost use Rattle.gears.specs.Rules.{Selectable};
-ghost use Rattle.sheet.specs.Examining.{examined};
-ghost use Rattle.decision.specs.Decision.{trackOf, finishBy, decideGears, decisionOf};
+ghost use Prim.Native.Nat.{_≤_, _<_};
+ghost use lib.ListN.{length};
 ghost use Rattle.sheet.specs.declared.Examination.the-variants.{Whole};
-ghost use Rattle.decision.specs.Sound.{Weighable};
+ghost use Rattle.sheet.specs.Sheet.{examined, RunsGood};
+ghost use Rattle.gears.specs.Rules.{Inside};
+ghost use Rattle.session.specs.Session.{sessionOf, windowIn, gearsIn, windowsIn};
+ghost use Rattle.decision.specs.Decision.{measuredBy, measuredAt, oneOf, pairOf, selectedIn, Straddling, finishBy, decideGears, trackOf, decisionOf};
 
-// The chosen gears with their levels, or the refusal of what is lacking.
+// A gear with both its windows, or the refusal if it has no constant-speed window.
+pub enum Measured {
+    Windows(ChosenGear),
+    Refused(Refusal),
+}
+
+// The chosen gears with their windows, or a refusal.
 pub enum Selection {
-    Lacking(Refusal),
     Chosen(Chosen),
+    Refused(Refusal),
 }
 
-// One gear with its acceleration window: its constant-speed window is looked for.
-fn select_one(
-    sheet: &[u8],
-    track: Track,
-    reference: Reference,
-    rule: u8,
-    g: Gear,
-    f: Four,
-) -> Selection
+// What is decided for a sheet.
+pub enum Decision {
+    Result(Outcome),
+    Refused(Refusal),
+}
+
+// A gear with its acceleration window: its constant-speed window is looked for.
+fn measure(sheet: &[u8], track: Track, g: Gear, f: Four) -> Measured
     requires { ⌜ RunsGood (now sheet) ⌝ }
-    ensures { λ r. ⌜ r ≡ selectionBy reference (selectOne rule g f (windowOf (now (sheet .entry)) (track .background .0) 3 (g .number))) ⌝ }
+    ensures { λ r. ⌜ r ≡ measuredBy g f (windowIn (sessionOf (now (sheet .entry)) track) 3 (g .number)) ⌝ }
 {
-    match valid_runs::window_in(sheet, track.background, Record::CONSTANT_SPEED, g.number) {
-        Window::Runs(h) => {
-            let acceleration = g.acceleration;
-            Selection::Chosen(Chosen::One(One {
-                rule,
-                gear: g.number,
-                acceleration,
-                w: window::condition_level(f),
-                c: window::condition_level(h),
-            }))
-        }
-        Window::Nothing => Selection::Lacking(Refusal::NoConstantSpeed(g.number)),
+    match valid_runs::window_of(sheet, track.condition(Record::CONSTANT_SPEED, g.number)) {
+        Window::Runs(h) => Measured::Windows(ChosenGear {
+            gear: g,
+            acceleration_window: f,
+            constant_window: h,
+        }),
+        Window::Nothing => Measured::Refused(Refusal::NoConstantSpeed(g.number)),
     }
 }
 
-// A pair of gears with their four windows.
-fn paired(
-    reference: Reference,
-    rule: u8,
-    i: Gear,
-    fi: Four,
-    hi: Four,
-    j: Gear,
-    fj: Four,
-    hj: Four,
-) -> Selection
-    requires { ⌜ (j .acceleration .0 < reference .«a_ref» .0) × (reference .«a_ref» .0 ≤ i .acceleration .0) ⌝ }
-    ensures { λ r. ⌜ r ≡ selectionBy reference (gears (pair rule (weighedGear i fi hi) (weighedGear j fj hj))) ⌝ }
+// The gear at a place of the table.
+fn measure_at(sheet: &[u8], track: Track, table: Table, p: usize) -> Measured
+    requires { ⌜ RunsGood (now sheet) ⌝ }
+    requires { ⌜ (p < table .count) × (table .count ≤ 16) ⌝ }
+    ensures { λ r. ⌜ r ≡ measuredAt (sessionOf (now (sheet .entry)) track) (gearsIn table) (windowsIn table) p ⌝ }
 {
-    let k = gears::k(reference.a_ref, i.acceleration, j.acceleration);
-    Selection::Chosen(Chosen::Pair(Pair {
-        rule,
-        i: i.number,
-        j: j.number,
-        k,
-        w_i: window::condition_level(fi),
-        w_j: window::condition_level(fj),
-        c_i: window::condition_level(hi),
-        c_j: window::condition_level(hj),
-    }))
+    let g = table.gears[p];
+    let f = table.windows[p];
+    measure(sheet, track, g, f)
 }
 
-// A pair of gears with their acceleration windows: their constant-speed windows are looked for.
-fn select_pair(
-    sheet: &[u8],
-    track: Track,
-    reference: Reference,
-    rule: u8,
-    i: Gear,
-    fi: Four,
-    j: Gear,
-    fj: Four,
-) -> Selection
-    requires { ⌜ RunsGood (now sheet) ⌝ }
-    requires { ⌜ (j .acceleration .0 < reference .«a_ref» .0) × (reference .«a_ref» .0 ≤ i .acceleration .0) ⌝ }
-    ensures { λ r. ⌜ r ≡ selectionBy reference (selectPair rule i fi (windowOf (now (sheet .entry)) (track .background .0) 3 (i .number)) j fj (windowOf (now (sheet .entry)) (track .background .0) 3 (j .number))) ⌝ }
+// One gear, chosen by a rule.
+fn one_of(rule: u8, m: Measured) -> Selection
+    ensures { λ r. ⌜ r ≡ oneOf rule m ⌝ }
 {
-    match valid_runs::window_in(sheet, track.background, Record::CONSTANT_SPEED, i.number) {
-        Window::Runs(hi) => match valid_runs::window_in(
-            sheet,
-            track.background,
-            Record::CONSTANT_SPEED,
-            j.number,
-        ) {
-            Window::Runs(hj) => paired(reference, rule, i, fi, hi, j, fj, hj),
-            Window::Nothing => Selection::Lacking(Refusal::NoConstantSpeed(j.number)),
-        },
-        Window::Nothing => Selection::Lacking(Refusal::NoConstantSpeed(i.number)),
+    match m {
+        Measured::Windows(g) => Selection::Chosen(Chosen::One(rule, g)),
+        Measured::Refused(x) => Selection::Refused(x),
     }
 }
 
-// The gear or the pair at a place among the first `count` of the table, with the constant-speed windows.
-pub fn select(
-    sheet: &[u8],
-    track: Track,
-    reference: Reference,
-    gears: [Gear; 16],
-    windows: [Four; 16],
-    count: usize,
-    choice: Choice,
-) -> Selection
+// Gears i and j, chosen by a rule. Gear i has the lower number: it is refused first.
+fn pair_of(rule: u8, i: Measured, j: Measured) -> Selection
+    ensures { λ r. ⌜ r ≡ pairOf rule i j ⌝ }
+{
+    let g = match i {
+        Measured::Windows(g) => g,
+        Measured::Refused(x) => return Selection::Refused(x),
+    };
+    match j {
+        Measured::Windows(h) => Selection::Chosen(Chosen::Pair(rule, g, h)),
+        Measured::Refused(x) => Selection::Refused(x),
+    }
+}
+
+// Rows 9 and 10: the gear or the pair of the choice, with its windows.
+fn select(sheet: &[u8], track: Track, table: Table, choice: Choice) -> Selection
     requires { ⌜ RunsGood (now sheet) ⌝ }
-    requires { ⌜ count ≤ 16 ⌝ }
-    requires { ⌜ Selectable (reference .«a_ref» .0) (take count gears) choice ⌝ }
-    ensures { λ r. ⌜ r ≡ selectionBy reference (selectedIn (now (sheet .entry)) (track .background .0) (take count gears) (take count windows) choice) ⌝ }
+    requires { ⌜ (table .count ≤ 16) × Inside (table .count) choice ⌝ }
+    ensures { λ r. ⌜ r ≡ selectedIn (sessionOf (now (sheet .entry)) track) (gearsIn table) (windowsIn table) choice ⌝ }
 {
     match choice {
-        Choice::One(rule, p) => {
-            let g = gears[p];
-            let f = windows[p];
-            select_one(sheet, track, reference, rule, g, f)
-        }
+        Choice::One(rule, p) => one_of(rule, measure_at(sheet, track, table, p)),
         Choice::Pair(rule, p) => {
-            let i = gears[p];
-            let fi = windows[p];
-            let j = gears[p + 1];
-            let fj = windows[p + 1];
-            select_pair(sheet, track, reference, rule, i, fi, j, fj)
+            let i = measure_at(sheet, track, table, p);
+            let j = measure_at(sheet, track, table, p + 1);
+            pair_of(rule, i, j)
         }
-        Choice::Nothing => Selection::Lacking(Refusal::NoRule),
+        Choice::Nothing => Selection::Refused(Refusal::NoRule),
     }
-}
-
-// What a sheet decides on.
-pub enum Decision {
-    Refused(Refusal),
-    Result(Outcome),
 }
 
 // The result of what was selected.
-fn finish_with(selection: Selection, reference: Reference, limit: u16) -> Decision
-    requires { ⌜ Weighable reference selection ⌝ }
+fn finish_with(reference: Reference, limit: u16, selection: Selection) -> Decision
+    requires { ⌜ Straddling reference selection ⌝ }
     ensures { λ r. ⌜ r ≡ finishBy reference limit selection ⌝ }
 {
     match selection {
-        Selection::Lacking(x) => Decision::Refused(x),
         Selection::Chosen(chosen) => Decision::Result(urban::outcome_of(
-            chosen,
             reference,
             limit,
+            urban::basis_of(reference, chosen),
         )),
+        Selection::Refused(x) => Decision::Refused(x),
     }
 }
 
-// Rows 8 to 10, from the first `count` of a session's gears and windows.
+// Rows 8 to 10, from the table of a session.
 fn decide_table(
     sheet: &[u8],
     track: Track,
     reference: Reference,
     limit: u16,
-    gears: [Gear; 16],
-    windows: [Four; 16],
-    count: usize,
+    table: Table,
 ) -> Decision
     requires { ⌜ RunsGood (now sheet) ⌝ }
-    requires { ⌜ count ≤ 16 ⌝ }
-    ensures { λ r. ⌜ r ≡ decideGears reference limit (now (sheet .entry)) (track .background .0) (take count gears) (take count windows) ⌝ }
+    requires { ⌜ (table .count ≤ 16) × (length (gearsIn table) ≡ table .count) ⌝ }
+    ensures { λ r. ⌜ r ≡ decideGears reference limit (sessionOf (now (sheet .entry)) track) (gearsIn table) (windowsIn table) ⌝ }
 {
+    let gears = table.gears;
+    let count = table.count;
     let p = gears::first_not_falling(gears, count);
     if p + 1 < count {
         let g = gears[p];
         return Decision::Refused(Refusal::NotFalling(g.number));
     }
-    let choice = gears::choose(gears, count, reference.a_ref, reference.a_urban);
-    finish_with(
-        select(sheet, track, reference, gears, windows, count, choice),
-        reference,
-        limit,
-    )
+    let choice = gears::choose(gears, count, reference);
+    finish_with(reference, limit, select(sheet, track, table, choice))
 }
 
-// What a session is evaluated by: its background is the larger of before and after.
+// What a session is evaluated by.
 fn track_of(v: Vehicle, z: Closing) -> Track
     requires { ⌜ v .length ≤ 2000 ⌝ }
     ensures { λ r. ⌜ r ≡ trackOf v z ⌝ }
@@ -216,44 +166,27 @@ fn decide_whole(sheet: &[u8], v: Vehicle, z: Closing) -> Decision
     ensures { λ r. ⌜ r ≡ decisionOf (now (sheet .entry)) ⌝ }
 {
     let pmr = reference::pmr(v.power, v.mass);
-    if pmr < 50 {
+    if (pmr < 50) | (6000 < pmr) {
         return Decision::Refused(Refusal::PmrOutOfRange);
     }
-    if 6000 < pmr {
-        return Decision::Refused(Refusal::PmrOutOfRange);
-    }
-    if !sheet::any_run(sheet) {
+    if !sheet::any_acceleration(sheet) {
         return Decision::Refused(Refusal::NoRun);
     }
     let track = track_of(v, z);
     let table = session::table_of(sheet, track);
-    let lacking = table.lacking;
-    if lacking < 16 {
-        return Decision::Refused(Refusal::NoWindow((lacking + 1) as u8));
+    if table.no_window < 16 {
+        return Decision::Refused(Refusal::NoWindow((table.no_window + 1) as u8));
     }
-    let reference = reference::reference_of(pmr as u16);
-    let gears = table.gears;
-    let windows = table.windows;
-    decide_table(
-        sheet,
-        track,
-        reference,
-        v.limit,
-        gears,
-        windows,
-        table.count,
-    )
+    let reference = reference::reference_at(pmr as u16);
+    decide_table(sheet, track, reference, v.limit, table)
 }
 
-// What any byte string decides on.
+// What is decided for any byte string.
 pub fn decide(sheet: &[u8]) -> Decision
     ensures { λ r. ⌜ r ≡ decisionOf (now (sheet .entry)) ⌝ }
 {
     match sheet::examine(sheet) {
         Examination::Whole(v, z) => decide_whole(sheet, v, z),
-        Examination::WrongSize => Decision::Refused(Refusal::WrongSize),
-        Examination::NoVehicle => Decision::Refused(Refusal::NoVehicle),
-        Examination::NoClosing(n) => Decision::Refused(Refusal::NoClosing(n)),
-        Examination::BrokenRecord(n) => Decision::Refused(Refusal::BrokenRecord(n)),
+        Examination::Refused(x) => Decision::Refused(x),
     }
 }

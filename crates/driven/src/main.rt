@@ -1,14 +1,14 @@
 // Document 01's driven examples, and what stands under "Where the spreadsheet tempts", by single functions: each on a line.
-use window::Four;
-use window::ValidRun;
-use gears::Gear;
-use libc::STDOUT_FILENO;
-use level::Reading;
 use gears::Choice;
+use gears::Gear;
+use level::Reading;
 use level::Side;
+use libc::STDOUT_FILENO;
+use reference::Reference;
 use units::Hundredths;
 use units::Tenths;
-use reference::Reference;
+use window::Four;
+use window::ValidRun;
 ghost use Prim.Native.Nat.{_≤_};
 
 // A line of a text and a number.
@@ -98,6 +98,13 @@ fn references() {
     one(b"PMR of 100.0 and 1500 ", reference::pmr(1000, 1500) as u64);
 }
 
+// PMR 66.7, a_urban 1.06, a_ref 1.49.
+const CAR: Reference = Reference {
+    pmr: 667,
+    a_urban: Hundredths(106),
+    a_ref: Hundredths(149),
+};
+
 // The rule, and the place among the two gears, from 0; nothing where the rules choose no gear alone.
 fn choice() {
     let mut gears = [Gear {
@@ -108,7 +115,7 @@ fn choice() {
         number: 3,
         acceleration: Hundredths(142),
     };
-    let chosen = gears::choose(gears, 2, Hundredths(149), Hundredths(106));
+    let chosen = gears::choose(gears, 2, CAR);
     if let Choice::One(rule, place) = chosen {
         two(
             b"R 1.49, gears 1.56 and 1.42 one ",
@@ -118,14 +125,9 @@ fn choice() {
     }
 }
 
-// kp and L_urban of one gear, at PMR 66.7.
+// kp and L_urban of one gear.
 fn urban(text: &[u8], a: u16, w: u16, c: u16) {
-    let reference = Reference {
-        pmr: 667,
-        a_urban: Hundredths(106),
-        a_ref: Hundredths(149),
-    };
-    let l = urban::l_urban(reference, Hundredths(a), Tenths(w), Tenths(c));
+    let l = urban::l_urban(CAR, Hundredths(a), Tenths(w), Tenths(c));
     two(text, l.kp as u64, l.level as u64);
 }
 

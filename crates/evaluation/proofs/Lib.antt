@@ -1,7 +1,5 @@
-pub mod Measured
-pub mod Accepted
-pub mod Alike
+pub mod Close
+pub mod OnlyLevels
 pub mod Rising
-pub mod Causes
+pub mod Rows
 pub mod Verdicts
-pub mod Written

@@ -9,14 +9,13 @@ use native.Mathlib.Omega.{arith}
 use lib.Dec.{ltb}
 use lib.ListN.{length}
 use Rattle.refusal.specs.declared.Refusal.{Refusal}
-use Rattle.decision.specs.declared.Decision.{Decision}
-use Rattle.decision.specs.declared.Decision.the-variants as decision
 use Rattle.refusal.specs.declared.Answer.{Answer}
 use Rattle.refusal.specs.declared.Answer.the-variants as answer
 use Rattle.refusal.specs.declared.Refusal.the-variants as refusal
-use Rattle.evaluation.specs.Answer.{answerBy, answerOf, bufferBy, bufferOf}
+use Rattle.decision.specs.declared.Decision.{Decision}
+use Rattle.decision.specs.declared.Decision.the-variants as decision
 use Rattle.decision.specs.Decision.{decisionOf}
-use Rattle.evaluation.specs.Verdict.{IsAccepted, IsRefused, HasLUrban}
+use Rattle.evaluation.specs.Answer.{answerBy, answerOf, bufferBy, bufferOf, IsAccepted, IsRefused, HasLUrban}
 
 pub one-holds : (s : List ℕ) (size : ℕ) → IsAccepted s size ⊎ IsRefused s size
 one-holds s size = by (answerOf s size) refl

@@ -1,15 +1,18 @@
 -- What the caller gets: the answer, and every byte of the buffer (document 01, "Refusals and what remains").
-use Prim.Native.Nat.{ℕ}
+use mathlib.Core.Path.{_≡_}
 use mathlib.Core.Bool.{cond}
 use mathlib.Core.List.{List, _++_}
+use Prim.Native.Nat.{ℕ}
 use lib.Dec.{ltb}
 use lib.ListN.{length, drop}
-use Rattle.result.specs.Result.{resultBytes}
+use Rattle.refusal.specs.declared.Refusal.{Refusal}
 use Rattle.refusal.specs.declared.Refusal.the-variants.{ShortBuffer}
-use Rattle.decision.specs.declared.Decision.{Decision}
-use Rattle.decision.specs.declared.Decision.the-variants as decision
 use Rattle.refusal.specs.declared.Answer.{Answer}
 use Rattle.refusal.specs.declared.Answer.the-variants.{Accepted, Refused}
+use Rattle.urban.specs.declared.Outcome.{Outcome}
+use Rattle.result.specs.Result.{resultBytes}
+use Rattle.decision.specs.declared.Decision.{Decision}
+use Rattle.decision.specs.declared.Decision.the-variants as decision
 use Rattle.decision.specs.Decision.{decisionOf}
 
 unfoldable pub answerBy : Decision → Answer
@@ -27,3 +30,19 @@ bufferBy (decision.Result o) b = resultBytes o ++ drop 32 b
 
 unfoldable pub bufferOf : List ℕ → List ℕ → List ℕ
 bufferOf s b = cond (ltb (length b) 32) b (bufferBy (decisionOf s) b)
+
+-- ---- accepted, refused, and L_urban
+
+-- with a result buffer of this size
+abbrev pub IsAccepted : List ℕ → ℕ → Type 0
+IsAccepted s size = answerOf s size ≡ Accepted
+
+pub record IsRefused (s : List ℕ) (size : ℕ) : Type 0 where
+  pub refusal : Refusal
+  pub is : answerOf s size ≡ Refused refusal
+
+-- the decision for a sheet's bytes has this L_urban
+pub record HasLUrban (s : List ℕ) (level : ℕ) : Type 0 where
+  pub outcome : Outcome
+  pub decided : decisionOf s ≡ decision.Result outcome
+  pub is : outcome .«l_urban» ≡ level

@@ -1,52 +1,41 @@
--- Demand 3 on sheets (document 01, second half of "L_urban"): the chosen gears and runs of an accepted sheet, its figure, how close the
--- reported L_urban is to it, and how it compares with that of a sheet in which no chosen run is lower. All are definitions of the sheets'
--- bytes.
+-- Demand 3 on sheets (document 01, second half of "L_urban"): the chosen runs of an accepted sheet, its figure, how close the reported L_urban is
+-- to it, and how it compares with that of a sheet in which no chosen run is lower. All are definitions of the sheets' bytes.
 use mathlib.Core.Path.{_≡_}
-use Prim.Native.Nat.{ℕ, _/_, _%_, _≤_, _<_}
 use mathlib.Core.Bool.{Bool, false, _&&_, _||_}
 use mathlib.Core.List.{List, [], _∷_, _++_}
+use Prim.Native.Nat.{ℕ, _/_, _%_, _≤_, _<_}
 use lib.Dec.{eqb, leb, ltb}
 use lib.Ieee.{Float, binary32, ofBits, lt}
 use lib.ListN.{length, getD}
 use Rattle.units.specs.Bytes.{number}
-use Rattle.record.specs.Records.{recordAt}
-use Rattle.record.specs.Fields.{byte}
-use Rattle.window.specs.declared.Window.{Window}
-use Rattle.window.specs.declared.Window.the-variants as window
-use Rattle.session.specs.State.{Session, windowOf}
-use Rattle.session.specs.Table.{gearsOf, windowsOf}
+use Rattle.record.specs.Records.{recordAt, byte}
+use Rattle.window.specs.declared.Four.{Four}
 use Rattle.reference.specs.declared.Reference.{Reference}
-use Rattle.demand.specs.Fractions.{Frac, _over_, apart, _≼_}
-use Rattle.demand.specs.Figure.{figure, one, pair}
-use Rattle.demand.specs.Demand.{bound}
-use Rattle.refusal.specs.declared.Answer.the-variants.{Accepted}
-use Rattle.evaluation.specs.Answer.{answerOf, bufferOf}
-use Rattle.reference.specs.Reference.{referenceAt}
-use Rattle.decision.specs.Decision.{sheetSession, pmrIn, choiceIn}
-use Rattle.decision.specs.Selection.{Selected, lacking, gears, selectedIn}
+use Rattle.urban.specs.declared.ChosenGear.{ChosenGear}
+use Rattle.urban.specs.declared.Chosen.the-variants.{One, Pair}
+use Rattle.decision.specs.declared.Selection.{Selection}
+use Rattle.decision.specs.declared.Selection.the-variants as selection
+use Rattle.decision.specs.Decision.{referenceIn, selectionIn}
+use Rattle.figure.specs.Fractions.{Frac, _over_, apart, _≼_}
+use Rattle.figure.specs.Figure.{accelerating, constant, figure, bound}
+use Rattle.evaluation.specs.Answer.{IsAccepted, bufferOf}
 
--- PMR, a_urban and a_ref
-unfoldable pub referenceIn : List ℕ → Reference
-referenceIn s = referenceAt (pmrIn s)
-
--- the gear or the pair that the rules decide on, with the sums of its windows
-unfoldable pub chosenIn : List ℕ → Selected
-chosenIn s = let t = sheetSession s in selectedIn s (t .background) (gearsOf t) (windowsOf t) (choiceIn s)
+-- ---- close
 
 -- the figure of an accepted sheet, and the bound 0.6 + 0.005 × (Dk + Dp), in dB (a sheet without chosen gears has neither: 0)
-unfoldable pub figureBy : Reference → Selected → Frac
-figureBy r (lacking x) = 0 over 1
-figureBy r (gears g) = figure r g
+unfoldable pub figureBy : Reference → Selection → Frac
+figureBy r (selection.Refused x) = 0 over 1
+figureBy r (selection.Chosen c) = figure r c
 
-unfoldable pub boundBy : Reference → Selected → Frac
-boundBy r (lacking x) = 0 over 1
-boundBy r (gears g) = bound r g
+unfoldable pub boundBy : Reference → Selection → Frac
+boundBy r (selection.Refused x) = 0 over 1
+boundBy r (selection.Chosen c) = bound r c
 
 unfoldable pub figureOf : List ℕ → Frac
-figureOf s = figureBy (referenceIn s) (chosenIn s)
+figureOf s = figureBy (referenceIn s) (selectionIn s)
 
 unfoldable pub boundOf : List ℕ → Frac
-boundOf s = boundBy (referenceIn s) (chosenIn s)
+boundOf s = boundBy (referenceIn s) (selectionIn s)
 
 -- Close: a level in whole dB and the figure differ, either way, by at most the bound.
 unfoldable pub CloseTo : List ℕ → ℕ → Type 0
@@ -54,26 +43,25 @@ CloseTo s level = apart (level over 1) (figureOf s) ≼ boundOf s
 
 -- ---- the chosen runs, by their record numbers
 
-abbrev pub numbersIn : Window → List ℕ
-numbersIn (window.Runs f) = f .a .number ∷ f .b .number ∷ f .c .number ∷ f .d .number ∷ []
-numbersIn window.Nothing = []
+abbrev pub numbersOf : Four → List ℕ
+numbersOf f = f .a .number ∷ f .b .number ∷ f .c .number ∷ f .d .number ∷ []
 
 -- the four of a gear's acceleration window and the four of its constant-speed window
-unfoldable pub runsOf : Session → ℕ → List ℕ
-runsOf t gear = numbersIn (windowOf (t .sheet) (t .background) 2 gear) ++ numbersIn (windowOf (t .sheet) (t .background) 3 gear)
+abbrev pub runsOf : ChosenGear → List ℕ
+runsOf g = numbersOf (accelerating g) ++ numbersOf (constant g)
 
 -- those of the one gear, or of gear i and then of gear j
-unfoldable pub chosenRunsBy : Session → Selected → List ℕ
-chosenRunsBy t (lacking x) = []
-chosenRunsBy t (gears (one rule g)) = runsOf t (g .number)
-chosenRunsBy t (gears (pair rule i j)) = runsOf t (i .number) ++ runsOf t (j .number)
+abbrev pub chosenRunsBy : Selection → List ℕ
+chosenRunsBy (selection.Refused x) = []
+chosenRunsBy (selection.Chosen (One rule g)) = runsOf g
+chosenRunsBy (selection.Chosen (Pair rule i j)) = runsOf i ++ runsOf j
 
 unfoldable pub chosenRuns : List ℕ → List ℕ
-chosenRuns s = chosenRunsBy (sheetSession s) (chosenIn s)
+chosenRuns s = chosenRunsBy (selectionIn s)
 
--- ---- two sheets
+-- ---- rising
 
--- byte m is one of the floats at 8 and 12 of a run record
+-- byte m belongs to one of the floats, at 8 and 12, of a run record
 unfoldable pub ofLevel : List ℕ → ℕ → Bool
 ofLevel s m = let kind = byte (recordAt s (m / 32)) 0 in (eqb kind 2 || eqb kind 3) && leb 8 (m % 32) && ltb (m % 32) 16
 
@@ -99,4 +87,4 @@ pub record NoneLower (s s′ : List ℕ) : Type 0 where
 -- Rising: the level is not above the reported L_urban, at byte 10 of the result, of any sheet s′ that is accepted too and in which the
 -- level of no chosen run is lower.
 unfoldable pub RisesFrom : List ℕ → ℕ → Type 0
-RisesFrom s level = (s′ b : List ℕ) → answerOf s′ (length b) ≡ Accepted → NoneLower s s′ → level ≤ number (bufferOf s′ b) 10 2
+RisesFrom s level = (s′ b : List ℕ) → IsAccepted s′ (length b) → NoneLower s s′ → level ≤ number (bufferOf s′ b) 10 2

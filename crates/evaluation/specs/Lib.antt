@@ -1,4 +1,3 @@
 pub mod Answer
+pub mod Rows
 pub mod Demand
-pub mod Causes
-pub mod Verdict

@@ -1,14 +1,13 @@
-// What an evaluation promises, as definitions of bytes: the answer and the buffer, close and rising, each refusal exactly on its cause,
-// accepted or refused and never both. The laws say that every decision keeps them. No code.
-// The evaluation of a sheet: any byte string to a result, or to one numbered refusal.
+// The evaluation of a sheet: any byte string to a result, or to one numbered refusal, with what it promises. Beside the code stand the table of
+// refusals, close and rising, all as definitions of bytes.
 use decision::Decision;
 use refusal::Answer;
 use refusal::Refusal;
 ghost use mathlib.Core.Path.{_≡_};
 ghost use lib.ListN.{length};
+ghost use Rattle.units.specs.Bytes.{number};
 ghost use Rattle.evaluation.specs.Answer.{answerOf, bufferOf};
 ghost use Rattle.evaluation.specs.Demand.{CloseTo, RisesFrom};
-ghost use Rattle.units.specs.Bytes.{number};
 
 // The evaluation of a sheet: on success the result stands in the first 32 bytes of `result`; on a refusal no byte changes.
 pub fn evaluate(sheet: &[u8], result: &mut [u8]) -> Answer

@@ -5,7 +5,8 @@ use Prim.Native.Nat.{ℕ}
 use lib.Dec.{T, eqb}
 use Rattle.units.specs.Rounding.{rounded}
 use Rattle.units.specs.Tests.{allOf}
-use Rattle.gears.specs.Acceleration.{accelerationOf, kOf}
+use Rattle.gears.specs.Acceleration.{accelerationOf}
+use Rattle.gears.specs.Rules.{kOf}
 
 data Example : Type 0 where
   -- start, BB', path and the acceleration

@@ -5,7 +5,8 @@ use native.Mathlib.Omega.{arith}
 use lib.Dec.{lit<}
 use Rattle.units.specs.Rounding.{rounded}
 use Rattle.units.proofs.Rounding.{rounded-rising}
-use Rattle.gears.specs.Acceleration.{accelerationOf, meanOf, kOf}
+use Rattle.gears.specs.Acceleration.{accelerationOf, meanOf}
+use Rattle.gears.specs.Rules.{kOf}
 
 -- a speed of at most 150.0 km/h, squared
 pub square-most : (x : ℕ) → x ≤ 1500 → x * x ≤ 2250000

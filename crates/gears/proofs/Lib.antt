@@ -2,6 +2,5 @@ pub mod Accelerations
 mod AccelerationExamples
 pub mod Places
 pub mod Nearest
-pub mod Last
 pub mod Choices
 mod RulesExamples

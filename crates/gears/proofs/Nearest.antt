@@ -10,20 +10,19 @@ use lib.Dec.{T, leb, ltb, eqb, leb→le}
 use lib.Ieee.Fits.{and-l}
 use lib.ListN.{length}
 use borrow.Author.Tests.{ltb-true, ltb-false, lt-ltb, le-ltb, eq-eqb, ne-eqb}
-use Rattle.units.specs.Lowest.{lowest}
+use Rattle.units.specs.Tests.{lowest}
 use Rattle.units.proofs.Lowest.{lowest-is, lowest-most}
-use Rattle.units.proofs.Tests.{chosen, both}
+use Rattle.units.proofs.Tests.{by-test, both}
 use Rattle.gears.specs.declared.Gear.{Gear}
 use Rattle.gears.specs.declared.Best.{Best}
-use Rattle.gears.specs.Remaining.{a}
-use Rattle.gears.specs.Nearest.{apart, near, nearer, nearest}
+use Rattle.gears.specs.Rules.{a, ceiling, gap, near, nearer, nearest}
 
 -- a near acceleration lies within 16 bits of R
-close : (R x : ℕ) → R < 65536 → near R x ≡ true → apart x R < 65536
+within-16-bits : (R x : ℕ) → R < 65536 → near R x ≡ true → gap x R < 65536
 unfolding near
-close R x h e =
-    let t : T (leb (20 * apart x R) R && leb x 300) = rw e tt in
-    omega (arith, leb→le (20 * apart x R) R (and-l (leb (20 * apart x R) R) (leb x 300) t))
+within-16-bits R x h e =
+    let t : T (leb (20 * gap x R) R && leb x ceiling) = rw e tt in
+    omega (arith, leb→le (20 * gap x R) R (and-l (leb (20 * gap x R) R) (leb x ceiling) t))
 
 -- `b` is the nearest of the near gears before place i, the first of those as near; the number of gears if there is none
 pub record Seen (R : ℕ) (gears : List Gear) (i : ℕ) (b : Best) : Type 0 where
@@ -31,9 +30,9 @@ pub record Seen (R : ℕ) (gears : List Gear) (i : ℕ) (b : Best) : Type 0 wher
   pub none : b .place ≡ length gears → b .distance ≡ 65536
   pub before : b .place < length gears → b .place < i
   pub is-near : b .place < length gears → near R (a gears (b .place)) ≡ true
-  pub is : b .place < length gears → apart (a gears (b .place)) R ≡ b .distance
-  pub least : (k : ℕ) → k < i → near R (a gears k) ≡ true → b .distance ≤ apart (a gears k) R
-  pub first : (k : ℕ) → k < i → k < b .place → near R (a gears k) ≡ true → b .distance < apart (a gears k) R
+  pub is : b .place < length gears → gap (a gears (b .place)) R ≡ b .distance
+  pub least : (k : ℕ) → k < i → near R (a gears k) ≡ true → b .distance ≤ gap (a gears k) R
+  pub first : (k : ℕ) → k < i → k < b .place → near R (a gears k) ≡ true → b .distance < gap (a gears k) R
 
 module _ (R : ℕ) (gears : List Gear) (small : R < 65536) where
   pub seen-start : (n : ℕ) → n ≡ length gears → Seen R gears 0 (record { place = n; distance = 65536 })
@@ -57,7 +56,7 @@ module _ (R : ℕ) (gears : List Gear) (small : R < 65536) where
       by false e = let same : k ≡ i = le-antisymm (omega arith) (ltb-false k i e) in rw same p
 
   module _ (i : ℕ) (b : Best) (inside : i < length gears) (seen : Seen R gears i b) where
-    taken : near R (a gears i) ≡ true → apart (a gears i) R < b .distance → Seen R gears (i + 1) (record { place = i; distance = apart (a gears i) R })
+    taken : near R (a gears i) ≡ true → gap (a gears i) R < b .distance → Seen R gears (i + 1) (record { place = i; distance = gap (a gears i) R })
     taken n d =
         record {
           bound = omega arith;
@@ -65,11 +64,11 @@ module _ (R : ℕ) (gears : List Gear) (small : R < 65536) where
           before = λ h. omega arith;
           is-near = λ h. n;
           is = λ h. refl;
-          least = up-to (λ k. near R (a gears k) ≡ true → apart (a gears i) R ≤ apart (a gears k) R) i (λ k h m. le-of-lt (lt-of-lt-of-le d (seen .least k h m))) (λ m. le-refl _);
+          least = up-to (λ k. near R (a gears k) ≡ true → gap (a gears i) R ≤ gap (a gears k) R) i (λ k h m. le-of-lt (lt-of-lt-of-le d (seen .least k h m))) (λ m. le-refl _);
           first = λ k h l m. lt-of-lt-of-le d (seen .least k l m);
         }
 
-    passed : (near R (a gears i) && ltb (apart (a gears i) R) (b .distance)) ≡ false → Seen R gears (i + 1) b
+    passed : (near R (a gears i) && ltb (gap (a gears i) R) (b .distance)) ≡ false → Seen R gears (i + 1) b
     passed e =
         record {
           bound = seen .bound;
@@ -77,12 +76,12 @@ module _ (R : ℕ) (gears : List Gear) (small : R < 65536) where
           before = λ h. omega (arith, seen .before h);
           is-near = seen .is-near;
           is = seen .is;
-          least = up-to (λ k. near R (a gears k) ≡ true → b .distance ≤ apart (a gears k) R) i (seen .least) not-nearer;
-          first = up-to (λ k. k < b .place → near R (a gears k) ≡ true → b .distance < apart (a gears k) R) i (seen .first) (λ l m. absurd (never l m));
+          least = up-to (λ k. near R (a gears k) ≡ true → b .distance ≤ gap (a gears k) R) i (seen .least) not-nearer;
+          first = up-to (λ k. k < b .place → near R (a gears k) ≡ true → b .distance < gap (a gears k) R) i (seen .first) (λ l m. absurd (never l m));
         }
       where
-        not-nearer : near R (a gears i) ≡ true → b .distance ≤ apart (a gears i) R
-        not-nearer m = ltb-false (apart (a gears i) R) (b .distance) (sym (ap (λ (t : Bool). t && ltb (apart (a gears i) R) (b .distance)) m) ∙ e)
+        not-nearer : near R (a gears i) ≡ true → b .distance ≤ gap (a gears i) R
+        not-nearer m = ltb-false (gap (a gears i) R) (b .distance) (sym (ap (λ (t : Bool). t && ltb (gap (a gears i) R) (b .distance)) m) ∙ e)
 
         never : i < b .place → near R (a gears i) ≡ true → ⊥
         never l m = by (ltb (b .place) (length gears)) refl
@@ -91,12 +90,12 @@ module _ (R : ℕ) (gears : List Gear) (small : R < 65536) where
             by true f = let h = ltb-true (b .place) (length gears) f in omega (arith, seen .before h)
             by false f =
                 let end : b .place ≡ length gears = le-antisymm (seen .bound) (ltb-false (b .place) (length gears) f) in
-                omega (arith, seen .none end, not-nearer m, close R (a gears i) small m)
+                omega (arith, seen .none end, not-nearer m, within-16-bits R (a gears i) small m)
 
-    pub seen-next : Seen R gears (i + 1) (cond (near R (a gears i) && ltb (apart (a gears i) R) (b .distance)) (record { place = i; distance = apart (a gears i) R }) b)
+    pub seen-next : Seen R gears (i + 1) (cond (near R (a gears i) && ltb (gap (a gears i) R) (b .distance)) (record { place = i; distance = gap (a gears i) R }) b)
     seen-next =
-        chosen (Seen R gears (i + 1)) (near R (a gears i) && ltb (apart (a gears i) R) (b .distance)) (record { place = i; distance = apart (a gears i) R }) b
-        (λ e. let p = both (near R (a gears i)) (ltb (apart (a gears i) R) (b .distance)) e in taken (p .0) (ltb-true (apart (a gears i) R) (b .distance) (p .1)))
+        by-test (Seen R gears (i + 1)) (near R (a gears i) && ltb (gap (a gears i) R) (b .distance)) (record { place = i; distance = gap (a gears i) R }) b
+        (λ e. let p = both (near R (a gears i)) (ltb (gap (a gears i) R) (b .distance)) e in taken (p .0) (ltb-true (gap (a gears i) R) (b .distance) (p .1)))
         passed
 
   -- at the end it is the gear of rule 2
@@ -109,22 +108,22 @@ module _ (R : ℕ) (gears : List Gear) (small : R < 65536) where
       worse k h false e = simp e
       worse k h true e = by (ltb (b .place) (length gears)) refl
         where
-          distant : b .distance < apart (a gears k) R
+          distant : b .distance < gap (a gears k) R
           distant = seen .first k (omega (arith, seen .bound)) h e
 
           by : (t : Bool) → ltb (b .place) (length gears) ≡ t → (near R (a gears k) && eqb (lowest (nearer R gears k) (length gears) 0) (length gears)) ≡ false
           by true f =
               let l = ltb-true (b .place) (length gears) f in
-              let hit : nearer R gears k (b .place) ≡ true = simp (seen .is-near l, lt-ltb (apart (a gears (b .place)) R) (apart (a gears k) R) (omega (arith, seen .is l, distant))) in
+              let hit : nearer R gears k (b .place) ≡ true = simp (seen .is-near l, lt-ltb (gap (a gears (b .place)) R) (gap (a gears k) R) (omega (arith, seen .is l, distant))) in
               simp (e, ne-eqb (lowest (nearer R gears k) (length gears) 0) (length gears) (omega (arith, lowest-most (nearer R gears k) (length gears) 0 (b .place) (omega arith) hit)))
           by false f =
               let end : b .place ≡ length gears = le-antisymm (seen .bound) (ltb-false (b .place) (length gears) f) in
-              absurd (omega (arith, seen .none end, distant, close R (a gears k) small e))
+              absurd (omega (arith, seen .none end, distant, within-16-bits R (a gears k) small e))
 
       -- no near gear is nearer than it
       none-nearer : b .place < length gears → (k : ℕ) → k < length gears → (t : Bool) → near R (a gears k) ≡ t → nearer R gears (b .place) k ≡ false
       none-nearer h k l false e = simp e
-      none-nearer h k l true e = simp (e, le-ltb (apart (a gears k) R) (apart (a gears (b .place)) R) (omega (arith, seen .least k l e, seen .is h)))
+      none-nearer h k l true e = simp (e, le-ltb (gap (a gears k) R) (gap (a gears (b .place)) R) (omega (arith, seen .least k l e, seen .is h)))
 
       best : b .place < length gears → (near R (a gears (b .place)) && eqb (lowest (nearer R gears (b .place)) (length gears) 0) (length gears)) ≡ true
       best h =
@@ -136,7 +135,7 @@ module _ (R : ℕ) (gears : List Gear) (small : R < 65536) where
   seen-upto zero h = (record { place = length gears; distance = 65536 }, seen-start (length gears) refl)
   seen-upto (suc i) h =
       let s = seen-upto i (omega arith) in
-      (cond (near R (a gears i) && ltb (apart (a gears i) R) (s .0 .distance)) (record { place = i; distance = apart (a gears i) R }) (s .0), rw (add-one i) at (seen-next i (s .0) h (s .1)))
+      (cond (near R (a gears i) && ltb (gap (a gears i) R) (s .0 .distance)) (record { place = i; distance = gap (a gears i) R }) (s .0), rw (add-one i) at (seen-next i (s .0) h (s .1)))
 
   -- rule 2 takes no gear only if none is near
   pub none-near : length gears ≤ nearest R gears → (k : ℕ) → k < length gears → near R (a gears k) ≡ false
@@ -149,4 +148,4 @@ module _ (R : ℕ) (gears : List Gear) (small : R < 65536) where
       by false e = refl
       by true e =
           let end : s .0 .place ≡ length gears = le-antisymm (s .1 .bound) (le-trans h (le-of-eq (seen-all (s .0) (s .1)))) in
-          absurd (omega (arith, s .1 .none end, s .1 .least k l e, close R (a gears k) small e))
+          absurd (omega (arith, s .1 .none end, s .1 .least k l e, within-16-bits R (a gears k) small e))

@@ -3,14 +3,11 @@ use mathlib.Core.Bool.{Bool, true, false, _&&_}
 use mathlib.Core.List.{List, [], _∷_, map}
 use Prim.Native.Nat.{ℕ}
 use lib.Dec.{T, eqb}
-use Rattle.units.specs.Lowest.{lowest}
-use Rattle.units.specs.Tests.{allOf}
+use Rattle.units.specs.Tests.{lowest, allOf, pastLast}
 use Rattle.gears.specs.declared.Gear.{Gear}
 use Rattle.gears.specs.declared.Choice.{Choice}
 use Rattle.gears.specs.declared.Choice.the-variants.{One, Pair, Nothing}
-use Rattle.gears.specs.Remaining.{noGear, a, firstNotFalling}
-use Rattle.gears.specs.Nearest.{apart, near, nearer, nearest}
-use Rattle.gears.specs.Rules.{pastLast, jOf, firstBelow, oneAt, acrossOf, choiceOf}
+use Rattle.gears.specs.Rules.{emptyGear, gearAt, a, firstNotFalling, jOf, firstBelow, oneAt, acrossOf, choiceOf, gap, near, nearer, nearest}
 
 same : Choice → Choice → Bool
 same (One r p) (One s q) = eqb r s && eqb p q
@@ -33,7 +30,7 @@ data Example : Type 0 where
   falling : List ℕ → ℕ → Example
 
 holds : Example → Bool
-holds (chosen R u xs c) = same (choiceOf R u (gears xs)) c
+holds (chosen R u xs c) = same (choiceOf (record { pmr = 0; «a_urban» = record { 0 = u }; «a_ref» = record { 0 = R } }) (gears xs)) c
 holds (falling xs p) = eqb (firstNotFalling (gears xs)) p
 
 examples : List Example
@@ -69,5 +66,5 @@ examples =
     ∷ []
 
 every-holds : T (allOf (map holds examples))
-unfolding same gears holds examples lowest noGear a firstNotFalling apart near nearer nearest pastLast jOf firstBelow oneAt acrossOf choiceOf
+unfolding same gears holds examples lowest emptyGear gearAt a firstNotFalling gap near nearer nearest pastLast jOf firstBelow oneAt acrossOf choiceOf
 every-holds = tt

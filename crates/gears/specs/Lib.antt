@@ -1,4 +1,2 @@
 pub mod Acceleration
-pub mod Remaining
-pub mod Nearest
 pub mod Rules

@@ -1,17 +1,13 @@
-// A run's and a gear's acceleration, and k, the weight of gear i in a pair. No level comes in here.
-// Gears that remain, and neighbours that do not fall. No level comes in here.
-// Rule 2: the gear nearest to R. No level comes in here.
-// The five rules that decide which gear or pair of gears counts. No level comes in here.
+// Accelerations and the gear rules (document 01, "From levels to windows", step 6, and "Gears"). No level comes in here.
+use reference::Reference;
 use units::Hundredths;
 ghost use mathlib.Core.Path.{_≡_};
-ghost use Prim.Native.Nat.{_*_, _≤_, _<_};
-ghost use Rattle.gears.specs.Acceleration.{accelerationOf, meanOf, kOf};
-ghost use lib.ListN.{take};
-ghost use Rattle.gears.specs.Remaining.{firstNotFalling};
 ghost use mathlib.Core.Bool.{cond, _&&_};
+ghost use Prim.Native.Nat.{_*_, _≤_, _<_};
 ghost use lib.Dec.{ltb};
-ghost use Rattle.gears.specs.Nearest.{apart, near, nearest};
-ghost use Rattle.gears.specs.Rules.{jOf, firstBelow, acrossOf, choiceOf};
+ghost use lib.ListN.{take};
+ghost use Rattle.gears.specs.Acceleration.{accelerationOf, meanOf};
+ghost use Rattle.gears.specs.Rules.{firstNotFalling, gap, near, nearest, jOf, firstBelow, acrossOf, choiceOf, kOf};
 
 fn square(x: u16) -> u32
     requires { ⌜ x ≤ 1500 ⌝ }
@@ -37,21 +33,17 @@ pub fn mean(a: Hundredths, b: Hundredths, c: Hundredths, d: Hundredths) -> Hundr
     Hundredths(units::round(a.0 as u32 + b.0 as u32 + c.0 as u32 + d.0 as u32, 4) as u16)
 }
 
-// The weight of gear i in a pair, in hundredths.
-pub fn k(reference: Hundredths, i: Hundredths, j: Hundredths) -> u8
-    requires { ⌜ (j .0 < reference .0) × (reference .0 ≤ i .0) ⌝ }
-    ensures { λ r. ⌜ r ≡ kOf (reference .0) (i .0) (j .0) ⌝ }
-{
-    let from = (reference.0 - j.0) as u32;
-    let whole = (i.0 - j.0) as u32;
-    units::round(100 * from, whole) as u8
-}
-
 // A gear that remains.
 pub struct Gear {
     pub number: u8,
     pub acceleration: Hundredths,
 }
+
+// What an array of gears holds where none has been stored.
+pub const EMPTY_GEAR: Gear = Gear {
+    number: 0,
+    acceleration: Hundredths(0),
+};
 
 // The first of the first `count` gears whose acceleration is not above the next one's; count - 1 if there is none.
 pub fn first_not_falling(gears: [Gear; 16], count: usize) -> usize
@@ -71,11 +63,11 @@ pub fn first_not_falling(gears: [Gear; 16], count: usize) -> usize
 }
 
 // 3.00 m/s²: rule 2 takes no gear above it, rule 3 no pair whose first is above it, and rule 4 the first gear below it.
-pub const CEILING: u16 = 300;
+pub const CEILING: Hundredths = Hundredths(300);
 
 // |x − y|
 fn distance(x: u16, y: u16) -> u16
-    ensures { λ r. ⌜ r ≡ apart x y ⌝ }
+    ensures { λ r. ⌜ r ≡ gap x y ⌝ }
 {
     if x < y { y - x } else { x - y }
 }
@@ -84,7 +76,7 @@ fn distance(x: u16, y: u16) -> u16
 fn is_near(reference: u16, x: u16) -> bool
     ensures { λ r. ⌜ r ≡ near reference x ⌝ }
 {
-    (20 * distance(x, reference) as u32 <= reference as u32) & (x <= CEILING)
+    (20 * distance(x, reference) as u32 <= reference as u32) & (x <= CEILING.0)
 }
 
 // The nearest gear so far: its place, and how far it is from R. (65,536 is farther than any.)
@@ -95,7 +87,7 @@ struct Best {
 
 // The gear at `place`, with the acceleration x, taken into account.
 fn better(best: Best, place: usize, x: u16, reference: u16) -> Best
-    ensures { λ r. ⌜ r ≡ cond (near reference x && ltb (apart x reference) (best .distance)) (record { place = place; distance = apart x reference }) best ⌝ }
+    ensures { λ r. ⌜ r ≡ cond (near reference x && ltb (gap x reference) (best .distance)) (record { place = place; distance = gap x reference }) best ⌝ }
 {
     let d = distance(x, reference) as u32;
     if is_near(reference, x) & (d < best.distance) {
@@ -105,9 +97,9 @@ fn better(best: Best, place: usize, x: u16, reference: u16) -> Best
 }
 
 // The place that rule 2 takes; `count` if it takes none.
-pub fn nearest_place(gears: [Gear; 16], count: usize, reference: u16) -> usize
+pub fn nearest_place(gears: [Gear; 16], count: usize, reference: Reference) -> usize
     requires { ⌜ count ≤ 16 ⌝ }
-    ensures { λ r. ⌜ r ≡ nearest reference (take count gears) ⌝ }
+    ensures { λ r. ⌜ r ≡ nearest (reference .«a_ref» .0) (take count gears) ⌝ }
 {
     let mut best = Best {
         place: count,
@@ -116,7 +108,7 @@ pub fn nearest_place(gears: [Gear; 16], count: usize, reference: u16) -> usize
     let mut i = 0;
     while i < count {
         let g = gears[i];
-        best = better(best, i, g.acceleration.0, reference);
+        best = better(best, i, g.acceleration.0, reference.a_ref.0);
         i += 1;
     }
     best.place
@@ -132,14 +124,14 @@ pub enum Choice {
 }
 
 // The place of j: one past the last gear that reaches R; 0 if none does.
-fn j_place(gears: [Gear; 16], count: usize, reference: u16) -> usize
+fn j_place(gears: [Gear; 16], count: usize, reference: Reference) -> usize
     requires { ⌜ count ≤ 16 ⌝ }
-    ensures { λ r. ⌜ r ≡ jOf reference (take count gears) ⌝ }
+    ensures { λ r. ⌜ r ≡ jOf (reference .«a_ref» .0) (take count gears) ⌝ }
 {
     let mut j = count;
     while 0 < j {
         let g = gears[j - 1];
-        if reference <= g.acceleration.0 {
+        if reference.a_ref.0 <= g.acceleration.0 {
             return j;
         }
         j -= 1;
@@ -155,7 +147,7 @@ fn below_ceiling(gears: [Gear; 16], count: usize) -> usize
     let mut i = 0;
     while i < count {
         let g = gears[i];
-        if g.acceleration.0 < CEILING {
+        if g.acceleration.0 < CEILING.0 {
             return i;
         }
         i += 1;
@@ -164,9 +156,9 @@ fn below_ceiling(gears: [Gear; 16], count: usize) -> usize
 }
 
 // Rules 3 to 5.
-fn across(gears: [Gear; 16], count: usize, urban: u16, j: usize) -> Choice
+fn across(gears: [Gear; 16], count: usize, reference: Reference, j: usize) -> Choice
     requires { ⌜ count ≤ 16 ⌝ }
-    ensures { λ r. ⌜ r ≡ acrossOf urban (take count gears) j ⌝ }
+    ensures { λ r. ⌜ r ≡ acrossOf (reference .«a_urban» .0) (take count gears) j ⌝ }
 {
     if j == 0 {
         return Choice::Nothing;
@@ -176,11 +168,11 @@ fn across(gears: [Gear; 16], count: usize, urban: u16, j: usize) -> Choice
     }
     let i = j - 1;
     let gi = gears[i];
-    if gi.acceleration.0 <= CEILING {
+    if gi.acceleration.0 <= CEILING.0 {
         return Choice::Pair(3, i);
     }
     let gj = gears[j];
-    if urban <= gj.acceleration.0 {
+    if reference.a_urban.0 <= gj.acceleration.0 {
         let f = below_ceiling(gears, count);
         if f < count {
             return Choice::One(4, f);
@@ -191,9 +183,9 @@ fn across(gears: [Gear; 16], count: usize, urban: u16, j: usize) -> Choice
 }
 
 // The five rules over the first `count` of `gears`.
-pub fn choose(gears: [Gear; 16], count: usize, reference: Hundredths, urban: Hundredths) -> Choice
+pub fn choose(gears: [Gear; 16], count: usize, reference: Reference) -> Choice
     requires { ⌜ count ≤ 16 ⌝ }
-    ensures { λ r. ⌜ r ≡ choiceOf (reference .0) (urban .0) (take count gears) ⌝ }
+    ensures { λ r. ⌜ r ≡ choiceOf reference (take count gears) ⌝ }
 {
     if count == 0 {
         return Choice::Nothing;
@@ -201,9 +193,19 @@ pub fn choose(gears: [Gear; 16], count: usize, reference: Hundredths, urban: Hun
     if count == 1 {
         return Choice::One(1, 0);
     }
-    let nearest = nearest_place(gears, count, reference.0);
+    let nearest = nearest_place(gears, count, reference);
     if nearest < count {
         return Choice::One(2, nearest);
     }
-    across(gears, count, urban.0, j_place(gears, count, reference.0))
+    across(gears, count, reference, j_place(gears, count, reference))
+}
+
+// The weight of gear i in a pair, in hundredths.
+pub fn k(reference: Hundredths, i: Hundredths, j: Hundredths) -> u8
+    requires { ⌜ (j .0 < reference .0) × (reference .0 ≤ i .0) ⌝ }
+    ensures { λ r. ⌜ r ≡ kOf (reference .0) (i .0) (j .0) ⌝ }
+{
+    let from = (reference.0 - j.0) as u32;
+    let whole = (i.0 - j.0) as u32;
+    units::round(100 * from, whole) as u8
 }

@@ -10,7 +10,7 @@ use lib.ListN.{getD, take, List·getD-eq-default}
 use lib.Seq.{getD-take}
 use borrow.Author.Tests.{ltb-true, ltb-false}
 use Rattle.units.proofs.Table.{at}
-use Rattle.level.specs.Correction.{corrections, correctionOf}
+use Rattle.level.specs.Level.{corrections, correctionOf}
 
 -- an entry stands above the next one
 above : ℕ → ℕ → Bool

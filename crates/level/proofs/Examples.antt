@@ -9,10 +9,8 @@ use Rattle.units.specs.Rounding.{rounded}
 use Rattle.level.specs.declared.Found.{Found}
 use Rattle.level.specs.declared.Found.the-variants.{Good, Broken}
 use Rattle.level.specs.declared.Side.the-variants.{Corrected, NotValid}
-use Rattle.level.specs.Range.{inRange}
-use Rattle.level.specs.Level.{tenthsOf}
-use Rattle.level.specs.Reading.{readingOf}
-use Rattle.level.specs.Correction.{corrections, correctionOf, correctedSide}
+use Rattle.level.specs.Reading.{inRange, readingOf}
+use Rattle.level.specs.Level.{tenthsOf, corrections, correctionOf, correctedSide}
 
 tenths-of-pattern : ℕ → ℕ
 unfolding tenthsOf ofBits rounded

@@ -1,17 +1,17 @@
 -- What the tests of a float against 20.0 and 140.0 say of `inRange`. The literals are written by their bit patterns: `ofBits` computes
 -- them to `fin false 5 (pos 2)` and `fin false 35 (pos 2)`. Assumes nothing.
 use mathlib.Core.Path.{_≡_, refl, sym, _∙_}
+use mathlib.Core.Bool.{Bool, true, false, _&&_, _||_, false≢true}
 use Prim.Native.Nat.{ℕ, _*_, _%_, _≤_, _<_}
 use native.Mathlib.Nat.{mul-one, le-antisymm}
 use native.Mathlib.Omega.{arith}
-use mathlib.Core.Bool.{Bool, true, false, _&&_, _||_, false≢true}
 use lib.Dec.{leb, ltb, eqb}
 use lib.IntN.{ℤ}
 use lib.Ieee.{Float, nan, inf, fin, binary32, up, down, lt, eq, le, isNan, ofBits, nanBits}
 use lib.Ieee.Fits.{down-pos}
 use lib.Ieee.Bits.{nanBits-is, nanBits-above}
 use borrow.Author.Tests.{ltb-false, leb-true, leb-false, lt-ltb, le-ltb, eq-eqb, ne-eqb}
-use Rattle.level.specs.Range.{inRange}
+use Rattle.level.specs.Reading.{inRange}
 
 abbrev twenty : Float
 twenty = ofBits binary32 0x41a0_0000

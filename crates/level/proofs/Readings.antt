@@ -7,14 +7,13 @@ use lib.Ieee.{Float, nan, inf, fin, binary32, ofBits, nanBits, isNan}
 use lib.Ieee.Bits.{nanBits-is}
 use lib.Dec.{eqb}
 use borrow.Author.Tests.{eq-eqb, ne-eqb, eqb-true}
-use Rattle.units.proofs.Tests.{chosen}
+use Rattle.units.proofs.Tests.{by-test}
 use Rattle.level.specs.declared.Reading.{Reading}
 use Rattle.level.specs.declared.Reading.the-variants.{Level, Overload, Absent}
 use Rattle.level.specs.declared.Found.{Found}
 use Rattle.level.specs.declared.Found.the-variants.{Good, Broken}
 use Rattle.level.specs.declared.Pattern.the-variants.{InRange, Outside}
-use Rattle.level.specs.Range.{inRange}
-use Rattle.level.specs.Reading.{readingOf, levelOf}
+use Rattle.level.specs.Reading.{inRange, readingOf, levelOf}
 
 -- ---- what the answer for a pattern says of its float
 
@@ -79,12 +78,12 @@ pub data View (kind pattern : ℕ) : Found → Type 0 where
 pub view : (kind pattern : ℕ) → View kind pattern (readingOf kind pattern)
 unfolding readingOf
 view kind pattern =
-    chosen (View kind pattern) (eqb kind 0) _ _
-    (λ k. chosen (View kind pattern) (eqb pattern 0) _ _ (λ z. is-absent (eqb-true kind 0 k) (eqb-true pattern 0 z)) (λ z. is-broken))
-    (λ n. chosen (View kind pattern) (eqb kind 1) _ _
-    (λ k. chosen (View kind pattern) (inRange (ofBits binary32 pattern)) _ _ (λ i. is-level (eqb-true kind 1 k) i) (λ i. is-broken))
-    (λ m. chosen (View kind pattern) (eqb kind 2) _ _
-    (λ k. chosen (View kind pattern) (inRange (ofBits binary32 pattern)) _ _ (λ i. is-overload (eqb-true kind 2 k) i) (λ i. is-broken))
+    by-test (View kind pattern) (eqb kind 0) _ _
+    (λ k. by-test (View kind pattern) (eqb pattern 0) _ _ (λ z. is-absent (eqb-true kind 0 k) (eqb-true pattern 0 z)) (λ z. is-broken))
+    (λ n. by-test (View kind pattern) (eqb kind 1) _ _
+    (λ k. by-test (View kind pattern) (inRange (ofBits binary32 pattern)) _ _ (λ i. is-level (eqb-true kind 1 k) i) (λ i. is-broken))
+    (λ m. by-test (View kind pattern) (eqb kind 2) _ _
+    (λ k. by-test (View kind pattern) (inRange (ofBits binary32 pattern)) _ _ (λ i. is-overload (eqb-true kind 2 k) i) (λ i. is-broken))
     (λ l. is-broken)))
 
 -- the pattern of a good reading is not a NaN's

@@ -11,16 +11,15 @@ use Rattle.units.specs.declared.Tenths.{Tenths}
 use Rattle.level.specs.declared.Reading.{Reading}
 use Rattle.level.specs.declared.Reading.the-variants.{Level, Overload, Absent}
 use Rattle.level.specs.declared.Side.the-variants.{Corrected, NotValid}
-use Rattle.level.specs.Range.{inRange}
-use Rattle.level.specs.Level.{tenthsOf}
-use Rattle.level.specs.Correction.{correctionOf, correctedSide, sideOf}
-use Rattle.level.proofs.Rising.{tenths-rising, tenths-range}
-use Rattle.level.proofs.Corrections.{corrected-rising, correction-small}
+use Rattle.level.specs.Reading.{inRange}
+use Rattle.level.specs.Level.{tenthsOf, correctionOf, correctedSide, sideOf}
+use Rattle.level.proofs.Rising.{tenths-rising}
+use Rattle.level.proofs.Corrections.{corrected-rising}
 
 -- a level of d 10.0 or more over its background counts, corrected
-pub counts : (level background : ℕ) → background + 100 ≤ level → correctedSide level background ≡ Corrected (record { 0 = level - correctionOf (level - background) })
+pub side-counts : (level background : ℕ) → background + 100 ≤ level → correctedSide level background ≡ Corrected (record { 0 = level - correctionOf (level - background) })
 unfolding correctedSide
-counts level background h = simp (le-leb 100 (level - background) (omega arith))
+side-counts level background h = simp (le-leb 100 (level - background) (omega arith))
 
 -- one of less does not
 pub too-near : (level background : ℕ) → level < background + 100 → correctedSide level background ≡ NotValid
@@ -52,11 +51,11 @@ counting x background t e = by (inRange x) refl e
     by false r s = absurd (clash s)
 
 -- only a level counts
-pub only-levels : (r : Reading) (background : ℕ) (t : Tenths) → sideOf r background ≡ Corrected t → (x : Float) × (r ≡ Level x)
+pub level-only : (r : Reading) (background : ℕ) (t : Tenths) → sideOf r background ≡ Corrected t → (x : Float) × (r ≡ Level x)
 unfolding sideOf
-only-levels (Level x) background t e = (x, refl)
-only-levels (Overload x) background t e = absurd (let z : _≡_ {A = ℕ} 0 1 = cc in omega arith)
-only-levels Absent background t e = absurd (let z : _≡_ {A = ℕ} 0 1 = cc in omega arith)
+level-only (Level x) background t e = (x, refl)
+level-only (Overload x) background t e = absurd (let z : _≡_ {A = ℕ} 0 1 = cc in omega arith)
+level-only Absent background t e = absurd (let z : _≡_ {A = ℕ} 0 1 = cc in omega arith)
 
 -- over one background, a float that is not smaller never has a lower corrected level
 pub side-rising : (x y : Float) (background : ℕ) (t u : Tenths) → sideOf (Level x) background ≡ Corrected t → sideOf (Level y) background ≡ Corrected u → lt y x ≡ false → t .0 ≤ u .0

@@ -1,4 +1,2 @@
-pub mod Range
 pub mod Reading
 pub mod Level
-pub mod Correction

@@ -1,17 +1,14 @@
-// A reading: from its kind and its bytes to a level, an overload or nothing.
-// A level, rounded to a tenth.
-// One side of one run: from a reading to the corrected level that counts, if one does.
+// From a reading of the meter to one side's corrected level (document 01, "The sheet", and "From levels to windows", steps 1 to 3). Only
+// this crate computes with floats; nothing is known of runs.
 use units::Tenths;
 ghost use mathlib.Core.Path.{_≡_};
 ghost use Prim.Native.Nat.{_+_, _≤_};
 ghost use lib.ListN.{length};
 ghost use lib.Ieee.{binary32, ofBits};
-ghost use Rattle.units.specs.Bytes.{number};
-ghost use Rattle.level.specs.Range.{inRange};
-ghost use Rattle.level.specs.Reading.{readingOf, levelOf};
 ghost use lib.Dec.{T};
-ghost use Rattle.level.specs.Level.{tenthsOf};
-ghost use Rattle.level.specs.Correction.{correctionOf, correctedSide, sideOf};
+ghost use Rattle.units.specs.Bytes.{number};
+ghost use Rattle.level.specs.Reading.{inRange, readingOf, levelOf};
+ghost use Rattle.level.specs.Level.{tenthsOf, correctionOf, correctedSide, sideOf};
 
 // What the meter gave for one side of a run.
 pub enum Reading {

@@ -1,12 +1,12 @@
 -- Laws of the tests of a record's fields. Assumes nothing.
 use mathlib.Core.Path.{_≡_, refl}
+use mathlib.Core.Bool.{Bool, true, false, _&&_}
 use mathlib.Core.List.{List}
 use Prim.Native.Nat.{ℕ, suc, _+_, _-_, _≤_, _<_}
 use native.Mathlib.Omega.{arith}
-use mathlib.Core.Bool.{Bool, true, false, _&&_}
 use lib.Dec.{T, leb, eqb, leb→le}
 use lib.Ieee.Fits.{and-l, and-r}
-use Rattle.record.specs.Fields.{byte, within, zeros}
+use Rattle.record.specs.Records.{byte, within, zeros}
 
 -- ---- the zero bytes from i to before `end`, one by one
 

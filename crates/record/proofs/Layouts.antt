@@ -1,8 +1,8 @@
 -- Laws of a run record's layout. Assumes nothing.
 use mathlib.Core.Path.{_≡_, refl}
+use mathlib.Core.Bool.{true, false}
 use mathlib.Core.List.{List}
 use Prim.Native.Nat.{ℕ, _≤_}
-use mathlib.Core.Bool.{true, false}
 use lib.Dec.{T, leb→le, eqb→eq}
 use lib.ListN.{length, getD}
 use lib.Ieee.{binary32, ofBits, nanBits}
@@ -12,12 +12,10 @@ use Rattle.units.proofs.Tests.{each}
 use Rattle.level.specs.declared.Reading.{Reading}
 use Rattle.level.specs.declared.Found.{Found}
 use Rattle.level.specs.declared.Found.the-variants.{Good, Broken}
-use Rattle.level.specs.Reading.{readingOf}
+use Rattle.level.specs.Reading.{readingOf, inRange}
 use Rattle.level.proofs.Readings.{no-nan, in-range}
-use Rattle.level.specs.Range.{inRange}
+use Rattle.record.specs.Records.{byte, word, readable, runTests, runGood}
 use Rattle.record.proofs.Fields.{inside}
-use Rattle.record.specs.Fields.{byte, word}
-use Rattle.record.specs.Layout.{readable, runTests, runGood}
 
 -- ---- what the tests of a good record say, number by number
 

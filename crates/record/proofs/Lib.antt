@@ -4,3 +4,4 @@ pub mod VehicleRanges
 pub mod ClosingRanges
 pub mod Readings
 pub mod Layouts
+pub mod SameBytes

@@ -9,7 +9,7 @@ use Rattle.level.specs.declared.Found.{Found}
 use Rattle.level.specs.declared.Found.the-variants.{Good, Broken}
 use Rattle.level.specs.Reading.{readingOf}
 use Rattle.level.proofs.Readings.{View, is-absent, is-level, is-overload, is-broken, view}
-use Rattle.record.specs.Run.{readingFrom}
+use Rattle.record.specs.Records.{readingFrom}
 
 -- the reading that a kind and a pattern give is that of the kind and the float that the run keeps
 pub same-reading : (kind pattern : ℕ) (x : Reading) → readingOf kind pattern ≡ Good x → readingFrom kind (ofBits binary32 pattern) ≡ x

@@ -1,14 +1,13 @@
 -- What the tests of a good vehicle record say, number by number. Assumes nothing.
 use mathlib.Core.Path.{_≡_}
+use mathlib.Core.Bool.{true}
 use mathlib.Core.List.{List}
 use Prim.Native.Nat.{ℕ, _≤_}
-use mathlib.Core.Bool.{true}
 use lib.Dec.{T, eqb→eq}
 use lib.ListN.{length, getD}
 use Rattle.units.proofs.Tests.{each}
-use Rattle.record.specs.Fields.{byte, word}
+use Rattle.record.specs.Records.{byte, word, vehicleTests, vehicleGood}
 use Rattle.record.proofs.Fields.{inside}
-use Rattle.record.specs.Vehicle.{vehicleTests, vehicleGood}
 
 pub record VehicleRanges (r : List ℕ) : Type 0 where
   pub long : length r ≡ 32

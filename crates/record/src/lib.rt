@@ -1,25 +1,17 @@
-// Records of 32 bytes: how one is shown, and the tests of its fields.
-// The vehicle record: its layout, the vehicle that stands in it, and the length of its path.
-// The closing record: its layout, and what stands in it.
-// A run: the fields of a run record, and its two readings.
-// A run record: its layout, and the run of a good one.
+// Records of 32 bytes (document 01, "The sheet"): how one is shown, its fields, and the layout of the vehicle, run and closing record. Which
+// record stands where in a sheet is not known here.
 use level::Found;
 use level::Reading;
 use units::Tenths;
 ghost use mathlib.Core.Path.{_≡_};
+ghost use mathlib.Core.Bool.{false, not, _||_};
 ghost use Prim.Native.Nat.{_+_, _-_, _≤_, _<_};
 ghost use lib.ListN.{length};
-ghost use Rattle.record.specs.Records.{recordAt};
-ghost use Rattle.record.specs.Fields.{byte, word, within, zeros};
-ghost use Rattle.record.specs.Vehicle.{vehicleGood, vehicleIn, vehicleOf, pathOf};
-ghost use Rattle.record.specs.Closing.{closingGood, closingIn, closingOf};
-ghost use mathlib.Core.Bool.{false, not, _||_};
 ghost use lib.Ieee.{binary32, nanBits};
-ghost use Rattle.units.specs.Bytes.{number};
-ghost use Rattle.record.specs.Run.{runIn, readingFrom};
 ghost use lib.Dec.{leb, eqb};
+ghost use Rattle.units.specs.Bytes.{number};
 ghost use Rattle.level.specs.Reading.{readingOf};
-ghost use Rattle.record.specs.Layout.{readable, runGood, runOf};
+ghost use Rattle.record.specs.Records.{recordAt, byte, word, within, zeros, vehicleGood, vehicleIn, vehicleOf, pathOf, runIn, readingFrom, readable, runGood, runOf, closingGood, closingIn, closingOf};
 
 // A record: the constants that belong to it, and how one is shown.
 pub struct Record;
@@ -52,6 +44,8 @@ impl Record {
     }
 }
 
+// ---- fields
+
 // Whether a byte is from `low` to `high`.
 pub fn byte_within(r: &[u8], at: usize, low: u8, high: u8) -> bool
     requires { ⌜ at < length (now r) ⌝ }
@@ -83,6 +77,8 @@ pub fn blank(r: &[u8], at: usize, end: usize) -> bool
     }
     ok
 }
+
+// ---- the vehicle record
 
 pub struct Vehicle {
     // 1 M1, 2 N1
@@ -166,50 +162,7 @@ pub fn path_of(v: Vehicle) -> u16
     }
 }
 
-pub struct Closing {
-    // the number of run records
-    pub runs: u16,
-    // after the runs
-    pub background: Tenths,
-}
-
-pub enum ClosingRecord {
-    Good(Closing),
-    Broken,
-}
-
-pub fn closing_good(r: &[u8]) -> bool
-    ensures { λ ok. ⌜ ok ≡ closingGood (now (r .entry)) ⌝ }
-{
-    if r.len() != Record::SIZE {
-        return false;
-    }
-    (r[0] == Record::CLOSING)
-        & blank(r, 1, 2)
-        & word_within(r, 4, 0, 1000)
-        & blank(r, 6, 32)
-}
-
-pub fn closing_in(r: &[u8]) -> Closing
-    requires { ⌜ length (now r) ≡ 32 ⌝ }
-    ensures { λ v. ⌜ v ≡ closingIn (now (r .entry)) ⌝ }
-{
-    Closing {
-        runs: units::number16(r, 2),
-        background: Tenths(units::number16(r, 4)),
-    }
-}
-
-// The closing record that stands in `r`.
-pub fn read_closing(r: &[u8]) -> ClosingRecord
-    ensures { λ v. ⌜ v ≡ closingOf (now (r .entry)) ⌝ }
-{
-    if closing_good(r) {
-        ClosingRecord::Good(closing_in(r))
-    } else {
-        ClosingRecord::Broken
-    }
-}
+// ---- a run record
 
 pub struct Run {
     // Record::ACCELERATION or Record::CONSTANT_SPEED
@@ -329,5 +282,49 @@ pub fn read_run(r: &[u8]) -> RunRecord
         RunRecord::Good(run_in(r))
     } else {
         RunRecord::Broken
+    }
+}
+
+// ---- the closing record
+
+pub struct Closing {
+    // the number of run records
+    pub runs: u16,
+    // after the runs
+    pub background: Tenths,
+}
+
+pub enum ClosingRecord {
+    Good(Closing),
+    Broken,
+}
+
+pub fn closing_good(r: &[u8]) -> bool
+    ensures { λ ok. ⌜ ok ≡ closingGood (now (r .entry)) ⌝ }
+{
+    if r.len() != Record::SIZE {
+        return false;
+    }
+    (r[0] == Record::CLOSING) & blank(r, 1, 2) & word_within(r, 4, 0, 1000) & blank(r, 6, 32)
+}
+
+pub fn closing_in(r: &[u8]) -> Closing
+    requires { ⌜ length (now r) ≡ 32 ⌝ }
+    ensures { λ v. ⌜ v ≡ closingIn (now (r .entry)) ⌝ }
+{
+    Closing {
+        runs: units::number16(r, 2),
+        background: Tenths(units::number16(r, 4)),
+    }
+}
+
+// The closing record that stands in `r`.
+pub fn read_closing(r: &[u8]) -> ClosingRecord
+    ensures { λ v. ⌜ v ≡ closingOf (now (r .entry)) ⌝ }
+{
+    if closing_good(r) {
+        ClosingRecord::Good(closing_in(r))
+    } else {
+        ClosingRecord::Broken
     }
 }

@@ -1,9 +1,9 @@
 -- PMR and the two reference accelerations (document 01, "Gears"). q is PMR in tenths; accelerations are in hundredths of m/s².
-use Prim.Native.Nat.{ℕ, _+_, _*_, _^_}
 use mathlib.Core.Bool.{Bool, cond, _&&_}
+use Prim.Native.Nat.{ℕ, _+_, _*_, _^_}
 use lib.Dec.{leb, ltb}
 use Rattle.units.specs.Rounding.{rounded}
-use Rattle.units.specs.Lowest.{lowest}
+use Rattle.units.specs.Tests.{lowest}
 use Rattle.reference.specs.declared.Reference.{Reference}
 
 -- PMR = 1000 × P / m, P in kW and m in kg, rounded to a tenth: in tenths, from P in tenths of kW

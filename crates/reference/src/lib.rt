@@ -61,7 +61,7 @@ pub fn a_ref(q: u16) -> Hundredths
 }
 
 // PMR in tenths with the accelerations that follow from it.
-pub fn reference_of(q: u16) -> Reference
+pub fn reference_at(q: u16) -> Reference
     requires { ⌜ (50 ≤ q) × (q ≤ 6000) ⌝ }
     ensures { λ r. ⌜ r ≡ referenceAt q ⌝ }
 {

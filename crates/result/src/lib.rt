@@ -1,5 +1,4 @@
-// The result record: written from the fields of an outcome.
-// The fields of a result record, read back.
+// The result record: its 32 bytes from the fields of an outcome, and the fields read back from it. How the fields come about is not known here.
 use units::Hundredths;
 use units::Tenths;
 use urban::Outcome;
@@ -7,9 +6,8 @@ ghost use mathlib.Core.Path.{_≡_};
 ghost use mathlib.Core.List.{_++_};
 ghost use Prim.Native.Nat.{_≤_};
 ghost use lib.ListN.{length, drop};
-ghost use Rattle.urban.specs.Outcome.{flag};
-ghost use Rattle.result.specs.Result.{lowByte, highByte, resultBytes};
-ghost use Rattle.result.specs.Fields.{outcomeIn};
+ghost use Rattle.urban.specs.Urban.{flag};
+ghost use Rattle.result.specs.Result.{lowByte, highByte, resultBytes, outcomeIn};
 
 // The two bytes of a 16-bit number.
 fn low(n: u16) -> u8

@@ -1,20 +1,17 @@
-// What becomes of a gear: from a whole sheet to whether it remains, with its acceleration and its acceleration window.
-// A session's gears: from a whole sheet to the table of the gears that remain.
+// A session's gears: from a whole sheet to what becomes of each gear, and the table of those that remain. Which of them are chosen is not decided here.
 use gears::Gear;
 use record::Record;
 use units::Hundredths;
 use units::Tenths;
+use valid_runs::Condition;
 use window::Four;
-use window::ValidRun;
 use window::Window;
 ghost use mathlib.Core.Path.{_≡_};
 ghost use Prim.Native.Nat.{_≤_};
-ghost use Rattle.record.specs.Runs.{RunsGood};
-ghost use Rattle.window.specs.Four.{Each};
-ghost use Rattle.valid_runs.specs.Valid.{NotSlower};
-ghost use Rattle.sheet.specs.Presence.{hasRun};
-ghost use Rattle.session.specs.State.{windowOf, slowEnough, gearAcceleration, byWindow, stateOf, sessionOf};
-ghost use Rattle.session.specs.Table.{Tabled};
+ghost use Rattle.sheet.specs.Sheet.{RunsGood, hasAcceleration};
+ghost use Rattle.window.specs.Windows.{Each};
+ghost use Rattle.valid_runs.specs.ValidRuns.{NotSlower};
+ghost use Rattle.session.specs.Session.{sessionOf, conditionOf, windowIn, slowEnough, gearAcceleration, byWindow, stateOf, Tabled};
 
 // What a session is evaluated by, beside its runs.
 pub struct Track {
@@ -26,13 +23,29 @@ pub struct Track {
     pub path: u16,
 }
 
+impl Track {
+    // A gear and a run kind over the track's background.
+    pub fn condition(self, kind: u8, gear: u8) -> Condition
+        ensures { λ r. ⌜ r ≡ conditionOf self kind gear ⌝ }
+    {
+        let background = self.background;
+        Condition {
+            background,
+            kind,
+            gear,
+        }
+    }
+}
+
 // What becomes of a gear.
 pub enum State {
     // with its acceleration window
     Remains(Gear, Four),
     // an engine speed above S
     Dropped,
+    // acceleration runs, and no window among them
     NoWindow,
+    // no acceleration run
     NoRun,
 }
 
@@ -58,9 +71,9 @@ fn acceleration(f: Four, path: u16) -> Hundredths
 fn by_window(sheet: &[u8], track: Track, gear: u8) -> State
     requires { ⌜ RunsGood (now sheet) ⌝ }
     requires { ⌜ (1000 ≤ track .path) × (track .path ≤ 4000) ⌝ }
-    ensures { λ r. ⌜ r ≡ byWindow (track .rated) (track .path) gear (windowOf (now (sheet .entry)) (track .background .0) 2 gear) ⌝ }
+    ensures { λ r. ⌜ r ≡ byWindow track gear (windowIn (sessionOf (now (sheet .entry)) track) 2 gear) ⌝ }
 {
-    match valid_runs::window_in(sheet, track.background, Record::ACCELERATION, gear) {
+    match valid_runs::window_of(sheet, track.condition(Record::ACCELERATION, gear)) {
         Window::Runs(f) => {
             if slow_enough(f, track.rated) {
                 let a = acceleration(f, track.path);
@@ -80,15 +93,10 @@ fn by_window(sheet: &[u8], track: Track, gear: u8) -> State
 }
 
 // The state of a gear; `here` says whether it has an acceleration run.
-pub fn state_of(
-    sheet: &[u8],
-    track: Track,
-    gear: u8,
-    here: bool,
-) -> State
+pub fn state_of(sheet: &[u8], track: Track, gear: u8, here: bool) -> State
     requires { ⌜ RunsGood (now sheet) ⌝ }
     requires { ⌜ (1000 ≤ track .path) × (track .path ≤ 4000) ⌝ }
-    requires { ⌜ here ≡ hasRun (now sheet) gear ⌝ }
+    requires { ⌜ here ≡ hasAcceleration (now sheet) gear ⌝ }
     ensures { λ r. ⌜ r ≡ stateOf (sessionOf (now (sheet .entry)) track) gear ⌝ }
 {
     if here {
@@ -98,42 +106,24 @@ pub fn state_of(
     }
 }
 
-// The gears that remain, in rising number, each with its acceleration window: the first `count` of both arrays. If a gear lacks a
-// window, `lacking` is its place, gear p + 1 at place p, and the arrays say nothing; else it is 16.
+// The gears that remain, in rising number, each with its acceleration window: the first `count` of both arrays. If a gear has no window,
+// `no_window` is the place of the lowest such gear, gear p + 1 at place p, and the arrays say nothing; else it is 16.
 pub struct Table {
     pub gears: [Gear; 16],
     pub windows: [Four; 16],
     pub count: usize,
-    pub lacking: usize,
+    pub no_window: usize,
 }
 
-// The table of a session: its background, its rated engine speed S, and the path c + length in cm.
+// The table of a session.
 pub fn table_of(sheet: &[u8], track: Track) -> Table
     requires { ⌜ RunsGood (now sheet) ⌝ }
     requires { ⌜ (1000 ≤ track .path) × (track .path ≤ 4000) ⌝ }
     ensures { λ r. ⌜ Tabled (sessionOf (now (sheet .entry)) track) r ⌝ }
 {
     let seen = sheet::present(sheet);
-    let no_run = ValidRun {
-        left: Tenths(0),
-        right: Tenths(0),
-        start: 0,
-        end: 0,
-        engine: 0,
-        number: 0,
-    };
-    let no_four = Four {
-        a: no_run,
-        b: no_run,
-        c: no_run,
-        d: no_run,
-    };
-    let no_gear = Gear {
-        number: 0,
-        acceleration: Hundredths(0),
-    };
-    let mut gears = [no_gear; 16];
-    let mut windows = [no_four; 16];
+    let mut gears = [gears::EMPTY_GEAR; 16];
+    let mut windows = [window::EMPTY_FOUR; 16];
     let mut count: usize = 0;
     let mut p: usize = 0;
     while p < 16 {
@@ -150,7 +140,7 @@ pub fn table_of(sheet: &[u8], track: Track) -> Table
                     gears,
                     windows,
                     count,
-                    lacking: p,
+                    no_window: p,
                 };
             }
             State::Dropped => {}
@@ -162,6 +152,6 @@ pub fn table_of(sheet: &[u8], track: Track) -> Table
         gears,
         windows,
         count,
-        lacking: p,
+        no_window: p,
     }
 }

@@ -1,2 +1,3 @@
 pub mod Examinations
 pub mod Presence
+mod Examples

@@ -1,2 +1,1 @@
-pub mod Examining
-pub mod Presence
+pub mod Sheet

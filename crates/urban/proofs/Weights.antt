@@ -6,7 +6,7 @@ use native.Mathlib.Decide.{decLe}
 use native.Mathlib.Omega.{arith}
 use Rattle.units.specs.Rounding.{rounded}
 use Rattle.units.proofs.Rounding.{rounded-most}
-use Rattle.urban.specs.Weighing.{weighedLevel}
+use Rattle.urban.specs.Urban.{weighedLevel}
 
 -- either order of two numbers, as a case to go by
 pub byOrder : {G : Type 0} (a b : ℕ) → (a ≤ b → G) → (b ≤ a → G) → G

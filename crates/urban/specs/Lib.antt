@@ -1,3 +1,1 @@
-pub mod Weighing
 pub mod Urban
-pub mod Outcome

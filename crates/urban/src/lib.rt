@@ -1,41 +1,27 @@
-// From the levels of the chosen gears to W, C and a'.
-// kp and L_urban.
-// The fields of the result.
+// From the chosen gears with their windows to the fields of the result: W, C and a', kp and L_urban (document 01, end of "Gears", and
+// "L_urban"). No sheet is known here.
+use gears::Gear;
 use reference::Reference;
 use units::Hundredths;
 use units::Tenths;
+use window::Four;
 ghost use mathlib.Core.Path.{_≡_};
-ghost use Prim.Native.Nat.{_≤_};
-ghost use Rattle.urban.specs.Weighing.{weighedLevel, basisOf};
+ghost use Prim.Native.Nat.{_≤_, _<_};
 ghost use Rattle.units.specs.Rounding.{rounded};
-ghost use Rattle.urban.specs.Urban.{partPower, lUrbanOf};
-ghost use Rattle.urban.specs.Outcome.{outcomeOf};
+ghost use Rattle.urban.specs.declared.Chosen.the-variants.{Pair};
+ghost use Rattle.urban.specs.Urban.{Straddled, weighedLevel, basisOf, partPower, lUrbanOf, outcomeOf};
 
-// One gear: its acceleration, and its levels from its acceleration window and its constant-speed window.
-pub struct One {
-    pub rule: u8,
-    pub gear: u8,
-    pub acceleration: Hundredths,
-    pub w: Tenths,
-    pub c: Tenths,
+// A chosen gear with its two windows.
+pub struct ChosenGear {
+    pub gear: Gear,
+    pub acceleration_window: Four,
+    pub constant_window: Four,
 }
 
-// A pair of gears i and j, with k in hundredths, and each gear's two levels.
-pub struct Pair {
-    pub rule: u8,
-    pub i: u8,
-    pub j: u8,
-    pub k: u8,
-    pub w_i: Tenths,
-    pub w_j: Tenths,
-    pub c_i: Tenths,
-    pub c_j: Tenths,
-}
-
-// What the gear rules decide on.
+// What the gear rules decide on, with the windows: the rule, and one gear or gears i and j.
 pub enum Chosen {
-    One(One),
-    Pair(Pair),
+    One(u8, ChosenGear),
+    Pair(u8, ChosenGear, ChosenGear),
 }
 
 // What L_urban is reckoned from, alike for one gear and for a pair: W, C and a'.
@@ -62,19 +48,43 @@ pub fn weighed(k: u8, i: Tenths, j: Tenths) -> Tenths
     Tenths(units::round(total, 100) as u16)
 }
 
+// The basis of a pair: k, and with it the weighed levels.
+fn pair_basis(reference: Reference, rule: u8, i: ChosenGear, j: ChosenGear) -> Basis
+    requires { ⌜ Straddled reference (Pair rule i j) ⌝ }
+    ensures { λ r. ⌜ r ≡ basisOf reference (Pair rule i j) ⌝ }
+{
+    let a = reference.a_ref;
+    let k = gears::k(a, i.gear.acceleration, j.gear.acceleration);
+    let w_i = window::condition_level(i.acceleration_window);
+    let w_j = window::condition_level(j.acceleration_window);
+    let c_i = window::condition_level(i.constant_window);
+    let c_j = window::condition_level(j.constant_window);
+    let w = weighed(k, w_i, w_j);
+    let c = weighed(k, c_i, c_j);
+    Basis {
+        rule,
+        i: i.gear.number,
+        j: j.gear.number,
+        k,
+        w,
+        c,
+        a,
+    }
+}
+
 // W, C and a' of what was chosen.
-pub fn basis_of(chosen: Chosen, reference: Reference) -> Basis
-    requires { ⌜ basisOf chosen reference .k ≤ 100 ⌝ }
-    ensures { λ r. ⌜ r ≡ basisOf chosen reference ⌝ }
+pub fn basis_of(reference: Reference, chosen: Chosen) -> Basis
+    requires { ⌜ Straddled reference chosen ⌝ }
+    ensures { λ r. ⌜ r ≡ basisOf reference chosen ⌝ }
 {
     match chosen {
-        Chosen::One(g) => {
-            let w = g.w;
-            let c = g.c;
-            let a = g.acceleration;
+        Chosen::One(rule, g) => {
+            let w = window::condition_level(g.acceleration_window);
+            let c = window::condition_level(g.constant_window);
+            let a = g.gear.acceleration;
             Basis {
-                rule: g.rule,
-                i: g.gear,
+                rule,
+                i: g.gear.number,
                 j: 0,
                 k: 100,
                 w,
@@ -82,21 +92,7 @@ pub fn basis_of(chosen: Chosen, reference: Reference) -> Basis
                 a,
             }
         }
-        Chosen::Pair(p) => {
-            let k = p.k;
-            let w = weighed(k, p.w_i, p.w_j);
-            let c = weighed(k, p.c_i, p.c_j);
-            let a = reference.a_ref;
-            Basis {
-                rule: p.rule,
-                i: p.i,
-                j: p.j,
-                k,
-                w,
-                c,
-                a,
-            }
-        }
+        Chosen::Pair(rule, i, j) => pair_basis(reference, rule, i, j),
     }
 }
 
@@ -166,23 +162,21 @@ pub struct Outcome {
     pub a: Hundredths,
 }
 
-// The result of what was chosen, against a limit in whole dB(A).
-pub fn outcome_of(chosen: Chosen, reference: Reference, limit: u16) -> Outcome
-    requires { ⌜ basisOf chosen reference .k ≤ 100 ⌝ }
-    ensures { λ r. ⌜ r ≡ outcomeOf chosen reference limit ⌝ }
+// The result, against a limit in whole dB(A).
+pub fn outcome_of(reference: Reference, limit: u16, basis: Basis) -> Outcome
+    ensures { λ r. ⌜ r ≡ outcomeOf reference limit basis ⌝ }
 {
     let a_urban = reference.a_urban;
     let a_ref = reference.a_ref;
-    let b = basis_of(chosen, reference);
-    let w = b.w;
-    let c = b.c;
-    let a = b.a;
+    let w = basis.w;
+    let c = basis.c;
+    let a = basis.a;
     let l = l_urban(reference, a, w, c);
     Outcome {
-        rule: b.rule,
-        i: b.i,
-        j: b.j,
-        k: b.k,
+        rule: basis.rule,
+        i: basis.i,
+        j: basis.j,
+        k: basis.k,
         kp: l.kp,
         pass: l.level <= limit,
         w,

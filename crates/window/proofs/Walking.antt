@@ -30,7 +30,7 @@ use denote.Struct.Laws as LL
 use denote.Triple.Clauses.{Ended, Lasts, lasts}
 use denote.Triple.Entry.{Args}
 use Rattle.window.specs.declared.ValidRun.{ValidRun}
-use Rattle.window.specs.Windows.{noRun}
+use Rattle.window.specs.Windows.{emptyRun}
 use Rattle.window.proofs.ValidRun as S
 use Rattle.window.proofs.ValidRun.Laws as S′
 
@@ -41,8 +41,8 @@ vals = LL.vals S.the-type S′.the-laws
 abbrev pub Ok : ValidRun → Type 0
 Ok r = Is S.the-row r (vals r)
 
-abbrev pub word : Ty
-word = tyInt w64
+abbrev pub machineWord : Ty
+machineWord = tyInt w64
 
 -- a `&[ValidRun]` that a function was passed
 abbrev pub slice : Ty
@@ -76,10 +76,10 @@ after (call f os p) = skip
 
 -- the MIR of `x = runs[k]`: the offset m, the pointer p, the run
 abbrev reading : (k m p x : ℕ) → Body → Body
-reading k m p x rest =
+reading k m p x onward =
     seq (assign (place m []) (op2 (mul unsigned) (copy (place k [])) (int w64 12)))
     (seq (assign (place p []) (op2 offset (copy (place 1 (field 0 ∷ []))) (copy (place m []))))
-    (seq (assign (place x []) (rvOpd (copy (place p (deref S′.mir ∷ []))))) rest))
+    (seq (assign (place x []) (rvOpd (copy (place p (deref S′.mir ∷ []))))) onward))
 
 module _ {M : Type 1} {𝓤 : URA M} {H : Heap 𝓤} {A : Atoms 𝓤} {K : Type 0} {W : Given 𝓤 H A} {Γ : List (Item 𝓤)} {E : Env 𝓤 H} where
   -- a place that begins at a local
@@ -92,28 +92,28 @@ module _ {M : Type 1} {𝓤 : URA M} {H : Heap 𝓤} {A : Atoms 𝓤} {K : Type 
   freed t = step (λ s. forget t 0 refl $ free1 t $ s)
 
   -- run j is copied out of a row of runs
-  pub copies-run : K → {C : Calls 𝓤 H} {Λ : Loops 𝓤 H} {Q : Post 𝓤 H} {rest : Body} {k m p x lk ls lm lp lx : ℕ} (q : Share) (ys : List ValidRun) (b o j : ℕ) → Room S.the-row (length ys) → j < length ys
-      → spotOf 𝓤 H E k ≡ (word, lk, 0) → spotOf 𝓤 H E 1 ≡ (slice, ls, 0) → spotOf 𝓤 H E m ≡ (word, lm, 0) → spotOf 𝓤 H E p ≡ (tyPtr, lp, 0) → spotOf 𝓤 H E x ≡ (S′.mir, lx, 0)
-      → (Ok (getD ys j noRun)
-      → Seq K W (‵ (row S.the-row q ys b o) ∷ ‵ (fat fullShare word lk 0 (vint w64 j)) ∷ ‵ (fat fullShare slice ls 0 (sliceVal (b, o) (length ys))) ∷ ‵ (fat fullShare word lm 0 (vint w64 (j * 12))) ∷ ‵ (fat fullShare tyPtr lp 0 (vptr b (index.place 12 o j))) ∷ ‵ (fat fullShare S′.mir lx 0 (S′.lowered (getD ys j noRun))) ∷ Γ) (runs C Λ E rest Q))
-      → Seq K W (‵ (row S.the-row q ys b o) ∷ ‵ (fat fullShare word lk 0 (vint w64 j)) ∷ ‵ (fat fullShare slice ls 0 (sliceVal (b, o) (length ys))) ∷ ‵ (froom word lm 0) ∷ ‵ (froom tyPtr lp 0) ∷ ‵ (froom S′.mir lx 0) ∷ Γ) (runs C Λ E (reading k m p x rest) Q)
+  pub copies-run : K → {C : Calls 𝓤 H} {Λ : Loops 𝓤 H} {Q : Post 𝓤 H} {onward : Body} {k m p x lk ls lm lp lx : ℕ} (q : Share) (ys : List ValidRun) (b o j : ℕ) → Room S.the-row (length ys) → j < length ys
+      → spotOf 𝓤 H E k ≡ (machineWord, lk, 0) → spotOf 𝓤 H E 1 ≡ (slice, ls, 0) → spotOf 𝓤 H E m ≡ (machineWord, lm, 0) → spotOf 𝓤 H E p ≡ (tyPtr, lp, 0) → spotOf 𝓤 H E x ≡ (S′.mir, lx, 0)
+      → (Ok (getD ys j emptyRun)
+      → Seq K W (‵ (row S.the-row q ys b o) ∷ ‵ (fat fullShare machineWord lk 0 (vint w64 j)) ∷ ‵ (fat fullShare slice ls 0 (sliceVal (b, o) (length ys))) ∷ ‵ (fat fullShare machineWord lm 0 (vint w64 (j * 12))) ∷ ‵ (fat fullShare tyPtr lp 0 (vptr b (index.place 12 o j))) ∷ ‵ (fat fullShare S′.mir lx 0 (S′.lowered (getD ys j emptyRun))) ∷ Γ) (runs C Λ E onward Q))
+      → Seq K W (‵ (row S.the-row q ys b o) ∷ ‵ (fat fullShare machineWord lk 0 (vint w64 j)) ∷ ‵ (fat fullShare slice ls 0 (sliceVal (b, o) (length ys))) ∷ ‵ (froom machineWord lm 0) ∷ ‵ (froom tyPtr lp 0) ∷ ‵ (froom S′.mir lx 0) ∷ Γ) (runs C Λ E (reading k m p x onward) Q)
   copies-run t {lp = lp} q ys b o j gn l ek es em ep ex s =
       assigns t (bin t (load t (at-local ek (stop t)) (look t 1 refl)) (lit t tt) (record { fits = offset-fits (length ys) j (gn .1) l })) (at-local em (stop t)) (init t 3 refl (tt, record { fits = offset-fits (length ys) j (gn .1) l })) $
       assigns t (bin t (load t (at-local es (fld t refl (stop t))) (look-in t 2 (sub t 0 refl (whole t)))) (load t (at-local em (stop t)) (look t 3 refl)) tt) (at-local ep (stop t)) (init t 4 refl (tt, tt)) $
       rewrite t 4 (λ (n : ℕ). ‵ (fat fullShare tyPtr lp 0 (vptr b n))) (sym (place-is 12 o j)) refl $
-      elem-out t S.the-row (Is S.the-row) (shows 𝓤 H A S.the-row) vals (LL.tells S.the-type S′.the-laws) q ys j noRun b o l (λ g.
-      assigns t (of-opd t (load t (at-local ep (hop t (look t 6 refl) (stop t))) (look-raw t 0 refl))) (at-local ex (stop t)) (init t 7 refl (LL.lawful S.the-type S′.the-laws 𝓤 H A W .typed (getD ys j noRun) (vals (getD ys j noRun)) g .0)) $
-      elem-back t S.the-row q ys j noRun (vals (getD ys j noRun)) b o l $ s g)
+      elem-out t S.the-row (Is S.the-row) (shows 𝓤 H A S.the-row) vals (LL.tells S.the-type S′.the-laws) q ys j emptyRun b o l (λ g.
+      assigns t (of-opd t (load t (at-local ep (hop t (look t 6 refl) (stop t))) (look-raw t 0 refl))) (at-local ex (stop t)) (init t 7 refl (LL.lawful S.the-type S′.the-laws 𝓤 H A W .typed (getD ys j emptyRun) (vals (getD ys j emptyRun)) g .0)) $
+      elem-back t S.the-row q ys j emptyRun (vals (getD ys j emptyRun)) b o l $ s g)
 
 -- a call of a function whose contract says that it answers x has come back: `back` is what it hands back beside
-module _ {M : Type 1} {𝓤 : URA M} {H : Heap 𝓤} {A : Atoms 𝓤} {K : Type 0} {W : Given 𝓤 H A} {Γ : List (Item 𝓤)} {E : Env 𝓤 H} {C : Calls 𝓤 H} {Λ : Loops 𝓤 H} {Q : Post 𝓤 H} {d : Place} {rest : Body} where
+module _ {M : Type 1} {𝓤 : URA M} {H : Heap 𝓤} {A : Atoms 𝓤} {K : Type 0} {W : Given 𝓤 H A} {Γ : List (Item 𝓤)} {E : Env 𝓤 H} {C : Calls 𝓤 H} {Λ : Loops 𝓤 H} {Q : Post 𝓤 H} {d : Place} {onward : Body} where
   pub answers : K → (u : Val) (T : Ended) (κs : Lfts (T .signature .lifetimes)) (a : Args (T .signature) κs) (back : Item 𝓤) (R : RattleType) (val : R .Denot → Val) → Tells R (Is R) (λ y. val y ∷ []) → (x : R .Denot)
-      → (Is R x (val x ∷ []) → Seq K W (back ∷ Γ) (lands C Λ E d (val x) rest Q))
-      → Seq K W (raw (H .⇛ (ex 𝓤 (λ (r : R .Denot). sep 𝓤 (sep 𝓤 (mean 𝓤 H A back) (sem 𝓤 H A (R .own r (u ∷ [])))) (ex 𝓤 (λ (ws : Lasts T κs a). sep 𝓤 (sem 𝓤 H A (lasts T κs a ws)) (fact 𝓤 (r ≡ x))))))) ∷ Γ) (lands C Λ E d u rest Q)
+      → (Is R x (val x ∷ []) → Seq K W (back ∷ Γ) (lands C Λ E d (val x) onward Q))
+      → Seq K W (raw (H .⇛ (ex 𝓤 (λ (r : R .Denot). sep 𝓤 (sep 𝓤 (mean 𝓤 H A back) (sem 𝓤 H A (R .own r (u ∷ [])))) (ex 𝓤 (λ (ws : Lasts T κs a). sep 𝓤 (sem 𝓤 H A (lasts T κs a ws)) (fact 𝓤 (r ≡ x))))))) ∷ Γ) (lands C Λ E d u onward Q)
   answers t u T κs a back R val tells x k =
       use1 W (later (some (λ (r : R .Denot). (back ⊛ ‵ (R .own r (u ∷ []))) ⊛ raw (ex 𝓤 (λ (ws : Lasts T κs a). sep 𝓤 (sem 𝓤 H A (lasts T κs a ws)) (fact 𝓤 (r ≡ x))))))) (id⊢ 𝓤 _) $ await t tt $ pick t (λ r.
       split t $ move t (1 ∷ []) $ use1 W (raw (fact 𝓤 (r ≡ x))) (exE 𝓤 _ (λ ws. snd∗ 𝓤 (sem 𝓤 H A (lasts T κs a ws)) (fact 𝓤 (r ≡ x)))) $ heard t (r ≡ x) (λ e. split t $ move t (1 ∷ []) $
       facts t R (Is R) (shows 𝓤 H A R) r (u ∷ []) (λ is.
       let at : Is R x (u ∷ []) = subst (λ (y : R .Denot). Is R y (u ∷ [])) e is in
       let same : u ≡ val x = ap only (tells x (u ∷ []) at) in
-      subst (λ (w : Val). Seq K W (back ∷ Γ) (lands C Λ E d w rest Q)) (sym same) (k (subst (λ (w : Val). Is R x (w ∷ [])) same at)))))
+      subst (λ (w : Val). Seq K W (back ∷ Γ) (lands C Λ E d w onward Q)) (sym same) (k (subst (λ (w : Val). Is R x (w ∷ [])) same at)))))

@@ -1,12 +1,10 @@
-// Four valid runs: whether they lie close together, and the level of a condition.
-// Windows: four neighbours among valid runs that lie close together, and laws of their search. No code.
-// The search for a window among runs.
+// Windows: four neighbouring valid runs that lie close together, the level of a condition, and the search for the first window in a lent slice.
+// Neither a sheet nor an acceleration is known here.
 use units::Tenths;
 ghost use mathlib.Core.Path.{_≡_};
 ghost use Prim.Native.Nat.{_+_, _≤_, max, min, _-_, _<_};
-ghost use Rattle.window.specs.Four.{spanned, fitting, conditionLevel};
 ghost use lib.ListN.{length, take};
-ghost use Rattle.window.specs.Windows.{fourAt, firstWindow};
+ghost use Rattle.window.specs.Windows.{spanned, fitting, conditionLevel, fourAt, firstWindow};
 
 // A run that counts, with its corrected levels.
 pub struct ValidRun {
@@ -21,6 +19,16 @@ pub struct ValidRun {
     pub number: u16,
 }
 
+// What an array of runs holds where no run has been stored.
+pub const EMPTY_RUN: ValidRun = ValidRun {
+    left: Tenths(0),
+    right: Tenths(0),
+    start: 0,
+    end: 0,
+    engine: 0,
+    number: 0,
+};
+
 // Four neighbours among the runs that count.
 pub struct Four {
     pub a: ValidRun,
@@ -28,6 +36,14 @@ pub struct Four {
     pub c: ValidRun,
     pub d: ValidRun,
 }
+
+// What an array of windows holds where none has been stored.
+pub const EMPTY_FOUR: Four = Four {
+    a: EMPTY_RUN,
+    b: EMPTY_RUN,
+    c: EMPTY_RUN,
+    d: EMPTY_RUN,
+};
 
 fn least(a: u16, b: u16) -> u16
     ensures { λ r. ⌜ r ≡ min a b ⌝ }
@@ -122,7 +138,7 @@ fn first_window(runs: &[ValidRun]) -> Window
 }
 
 // The first window among the first `count` of `runs`, which are lent to the search. The one entry to it: its parameters are plain values.
-pub fn window_of(runs: [ValidRun; 16], count: usize) -> Window
+pub fn window_among(runs: [ValidRun; 16], count: usize) -> Window
     requires { ⌜ count ≤ 16 ⌝ }
     ensures { λ r. ⌜ r ≡ firstWindow (take count runs) ⌝ }
 {

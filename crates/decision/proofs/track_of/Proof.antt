@@ -1,7 +1,7 @@
 -- `decision::track_of` meets its contract. Assumes nothing.
-use borrow.Author.Needs.{needs}
 use mathlib.Core.Path.{ap₂}
 use Prim.Native.Nat.{ℕ}
+use borrow.Author.Needs.{needs}
 use Rattle.session.specs.declared.Track.{Track}
 use Rattle.decision.specs.Decision.{trackOf}
 use Rattle.decision.proofs.track_of.Statement.{statement}

@@ -1,20 +1,18 @@
 -- `gears::below_ceiling` meets its contract: no gear passed is below the ceiling. Assumes nothing.
-use borrow.Author.Needs.{needs}
 use mathlib.Core.Path.{_≡_, sym, ap, _∙_}
-use native.Mathlib.Omega.{arith}
 use mathlib.Core.Bool.{Bool}
 use mathlib.Core.List.{List}
 use Prim.Native.Nat.{ℕ, _-_, _≤_, _<_}
+use native.Mathlib.Omega.{arith}
 use lib.Dec.{ltb}
 use lib.ListN.{length, take}
+use borrow.Author.Needs.{needs}
 use borrow.Author.Tests.{lt-ltb, le-ltb}
-use Rattle.gears.specs.declared.Gear.{Gear}
-use Rattle.gears.proofs.Places.{counted, read, a-taken}
-use Rattle.units.specs.Lowest.{lowest}
+use Rattle.units.specs.Tests.{lowest}
 use Rattle.units.proofs.Lowest.{Passed, passed-start, passed-next, passed-stop, passed-end}
-use Rattle.gears.specs.Nearest.{ceiling}
-use Rattle.gears.specs.Remaining.{a}
-use Rattle.gears.specs.Rules.{firstBelow}
+use Rattle.gears.specs.declared.Gear.{Gear}
+use Rattle.gears.specs.Rules.{ceiling, a, firstBelow}
+use Rattle.gears.proofs.Places.{counted, read, a-taken}
 use Rattle.gears.proofs.below_ceiling.Statement.{statement}
 use Rattle.gears.proofs.below_ceiling.Tie as tie
 
@@ -45,9 +43,9 @@ array-copy-out-g c = omega arith
 
 returns : tie.Need-returns Inv-loop μ-loop
 returns c =
-    let l = c .before .before .before .before .loop in
-    let s = c .before .before .before .before .before in
-    sym (all (s .args .t1) (s .args .count) (l .inv .0) (s .pre) ∙ passed-stop _ _ _ (c .before .before .before .loop-test .taken) (outcome (s .args .t1) (s .args .count) (l .i) (c .before .before .before .loop-test .taken) ∙ lt-ltb _ _ (c .if1 .taken)) (l .inv .2))
+    let l = c .before .before .before .before .before .loop in
+    let s = c .before .before .before .before .before .before in
+    sym (all (s .args .t1) (s .args .count) (l .inv .0) (s .pre) ∙ passed-stop _ _ _ (c .before .before .before .before .loop-test .taken) (outcome (s .args .t1) (s .args .count) (l .i) (c .before .before .before .before .loop-test .taken) ∙ lt-ltb _ _ (c .if1 .taken)) (l .inv .2))
 
 add-i : tie.Need-add-i Inv-loop μ-loop
 add-i c = omega arith
@@ -57,9 +55,9 @@ loop-less c = omega arith
 
 loop-again : tie.Need-loop-again Inv-loop μ-loop
 loop-again c =
-    let l = c .before .before .before .before .loop in
-    let s = c .before .before .before .before .before in
-    (l .inv .0, omega arith, passed-next _ _ _ (c .before .before .before .loop-test .taken) (outcome (s .args .t1) (s .args .count) (l .i) (c .before .before .before .loop-test .taken) ∙ le-ltb _ _ (c .if1 .left)) (l .inv .2))
+    let l = c .before .before .before .before .before .loop in
+    let s = c .before .before .before .before .before .before in
+    (l .inv .0, omega arith, passed-next _ _ _ (c .before .before .before .before .loop-test .taken) (outcome (s .args .t1) (s .args .count) (l .i) (c .before .before .before .before .loop-test .taken) ∙ le-ltb _ _ (c .if1 .left)) (l .inv .2))
 
 returns-2 : tie.Need-returns-2 Inv-loop μ-loop
 returns-2 c =

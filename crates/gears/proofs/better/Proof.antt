@@ -1,15 +1,15 @@
 -- `gears::better` meets its contract. Assumes nothing.
-use borrow.Author.Needs.{needs}
 use mathlib.Core.Path.{_≡_, sym, ap₂, _∙_}
 use mathlib.Core.Bool.{Bool, _&&_}
-use lib.Dec.{ltb}
 use Prim.Native.Nat.{ℕ}
-use Rattle.gears.specs.Nearest.{apart, near}
+use lib.Dec.{ltb}
+use borrow.Author.Needs.{needs}
+use Rattle.gears.specs.Rules.{gap, near}
 use Rattle.gears.proofs.better.Statement.{statement}
 use Rattle.gears.proofs.better.Tie as tie
 
 -- the test is the definition's
-outcome : (c : tie.After-is-near) → let a = c .before .before .args in (c .is-near .result && ltb (c .before .distance .result) (a .best .distance)) ≡ (near (a .reference) (a .x) && ltb (apart (a .x) (a .reference)) (a .best .distance))
+outcome : (c : tie.After-is-near) → let a = c .before .before .args in (c .is-near .result && ltb (c .before .distance .result) (a .best .distance)) ≡ (near (a .reference) (a .x) && ltb (gap (a .x) (a .reference)) (a .best .distance))
 outcome c =
     let a = c .before .before .args in
     ap₂ (λ (t : Bool) (d : ℕ). t && ltb d (a .best .distance)) (c .is-near .ensures) (c .before .distance .ensures)

@@ -1,7 +1,7 @@
 -- `gears::distance` meets its contract. Assumes nothing.
-use borrow.Author.Needs.{needs}
 use native.Mathlib.Omega.{arith}
-use Rattle.gears.specs.Nearest.{apart}
+use borrow.Author.Needs.{needs}
+use Rattle.gears.specs.Rules.{gap}
 use Rattle.gears.proofs.distance.Statement.{statement}
 use Rattle.gears.proofs.distance.Tie as tie
 
@@ -9,11 +9,11 @@ sub-result : tie.Need-sub-result
 sub-result c = search needs
 
 returns : tie.Need-returns
-unfolding apart
+unfolding gap
 returns c = omega arith
 
 returns-2 : tie.Need-returns-2
-unfolding apart
+unfolding gap
 returns-2 c = omega arith
 
 pub distance-spec : {M : Type 1} → statement M

@@ -1,6 +1,6 @@
 -- `gears::is_near` meets its contract. Assumes nothing.
 use borrow.Author.Needs.{needs}
-use Rattle.gears.specs.Nearest.{near}
+use Rattle.gears.specs.Rules.{near}
 use Rattle.gears.proofs.is_near.Statement.{statement}
 use Rattle.gears.proofs.is_near.Tie as tie
 
@@ -15,7 +15,7 @@ mul-result c = search needs
 
 returns : tie.Need-returns
 unfolding near
-returns c = simp (c .distance .ensures)
+returns c = simp (c .before .distance .ensures)
 
 pub is-near-spec : {M : Type 1} → statement M
 is-near-spec = tie.close (tie.spec distance-requires cast-result mul-result returns)

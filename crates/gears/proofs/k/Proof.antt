@@ -1,7 +1,7 @@
 -- `gears::k` meets its contract. Assumes nothing.
-use borrow.Author.Needs.{needs}
 use native.Mathlib.Omega.{arith}
-use Rattle.gears.specs.Acceleration.{kOf}
+use borrow.Author.Needs.{needs}
+use Rattle.gears.specs.Rules.{kOf}
 use Rattle.gears.proofs.Accelerations.{k-most}
 use Rattle.gears.proofs.k.Statement.{statement}
 use Rattle.gears.proofs.k.Tie as tie

@@ -1,6 +1,6 @@
 -- `gears::mean` meets its contract. Assumes nothing.
-use borrow.Author.Needs.{needs}
 use native.Mathlib.Omega.{arith}
+use borrow.Author.Needs.{needs}
 use Rattle.gears.specs.Acceleration.{meanOf}
 use Rattle.gears.proofs.Accelerations.{mean-most}
 use Rattle.gears.proofs.mean.Statement.{statement}

@@ -1,11 +1,11 @@
 -- `gears::run_acceleration` meets its contract. Assumes nothing.
-use borrow.Author.Needs.{needs}
 use mathlib.Core.Path.{_≡_, ap₂, _∙_}
-use native.Mathlib.Omega.{arith}
 use Prim.Native.Nat.{ℕ, _-_, _*_}
+use native.Mathlib.Omega.{arith}
 use native.Mathlib.Nat.{mul-le-mul}
-use Rattle.gears.specs.Acceleration.{accelerationOf}
+use borrow.Author.Needs.{needs}
 use Rattle.units.specs.Rounding.{rounded}
+use Rattle.gears.specs.Acceleration.{accelerationOf}
 use Rattle.gears.proofs.Accelerations.{acceleration-most}
 use Rattle.gears.proofs.run_acceleration.Statement.{statement}
 use Rattle.gears.proofs.run_acceleration.Tie as tie

@@ -1,11 +1,11 @@
 -- `level::corrected` meets its contract, by the laws of a side. What is taken off is at most 0.5, and d is at least 10.0. Assumes nothing.
-use borrow.Author.Needs.{needs}
 use mathlib.Core.Path.{sym, ap, _∙_}
-use native.Mathlib.Omega.{arith}
 use Prim.Native.Nat.{ℕ, _-_}
+use native.Mathlib.Omega.{arith}
+use borrow.Author.Needs.{needs}
 use Rattle.level.specs.declared.Side.the-variants.{Corrected}
 use Rattle.level.proofs.Corrections.{correction-small}
-use Rattle.level.proofs.Sides.{counts, too-near}
+use Rattle.level.proofs.Sides.{side-counts, too-near}
 use Rattle.level.proofs.corrected.Statement.{statement}
 use Rattle.level.proofs.corrected.Tie as tie
 
@@ -28,7 +28,7 @@ sub-t6 : tie.Need-sub-t6
 sub-t6 c = omega (arith, c .before .correction .ensures, correction-small (level c - background c))
 
 returns-3 : tie.Need-returns-3
-returns-3 c = sym (counts (level c) (background c) (omega arith) ∙ ap (λ (n : ℕ). Corrected (record { 0 = level c - n })) (sym (c .before .correction .ensures)))
+returns-3 c = sym (side-counts (level c) (background c) (omega arith) ∙ ap (λ (n : ℕ). Corrected (record { 0 = level c - n })) (sym (c .before .correction .ensures)))
 
 pub corrected-spec : {M : Type 1} → statement M
 corrected-spec = tie.close (tie.spec returns returns-2 correction-requires sub-t6 returns-3)

@@ -1,10 +1,10 @@
 -- `level::correction` meets its contract: the table is the definition's, and past its end there is 0. Assumes nothing.
-use borrow.Author.Needs.{needs}
 use mathlib.Core.Path.{sym, refl}
-use native.Mathlib.Omega.{arith}
 use Prim.Native.Nat.{_-_, _/_}
+use native.Mathlib.Omega.{arith}
 use lib.ListN.{List·getD-eq-default}
-use Rattle.level.specs.Correction.{corrections, correctionOf}
+use borrow.Author.Needs.{needs}
+use Rattle.level.specs.Level.{corrections, correctionOf}
 use Rattle.level.proofs.correction.Statement.{statement}
 use Rattle.level.proofs.correction.Tie as tie
 

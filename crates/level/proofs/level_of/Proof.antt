@@ -1,6 +1,6 @@
 -- `level::level_of` meets its contract: the pattern of a NaN is no level's, and of any other `in_range` decides. Assumes nothing.
-use borrow.Author.Needs.{needs}
 use mathlib.Core.Path.{sym, _∙_}
+use borrow.Author.Needs.{needs}
 use Rattle.level.specs.Reading.{levelOf}
 use Rattle.level.proofs.Range.{nan-out, no-nan}
 use Rattle.level.proofs.level_of.Statement.{statement}

@@ -1,12 +1,12 @@
 -- `level::reading_at` meets its contract, kind by kind. Assumes nothing.
-use borrow.Author.Needs.{needs}
 use mathlib.Core.Path.{sym, ap, _∙_, _≡_}
 use Prim.Native.Nat.{ℕ}
 use native.Mathlib.Omega.{arith}
 use lib.Ieee.{binary32, ofBits}
+use borrow.Author.Needs.{needs}
 use denote.Ref.{now}
-use Rattle.level.specs.Reading.{levelOf}
 use Rattle.units.specs.Bytes.{number}
+use Rattle.level.specs.Reading.{levelOf}
 use Rattle.level.proofs.Readings.{absent, absent-broken, unknown-broken, level, overload, level-broken}
 use Rattle.level.proofs.reading_at.Statement.{statement}
 use Rattle.level.proofs.reading_at.Tie as tie

@@ -1,7 +1,7 @@
 -- `level::side_of` meets its contract, arm by arm. Assumes nothing.
-use borrow.Author.Needs.{needs}
 use mathlib.Core.Path.{sym, _∙_}
-use Rattle.level.specs.Correction.{sideOf}
+use borrow.Author.Needs.{needs}
+use Rattle.level.specs.Level.{sideOf}
 use Rattle.level.proofs.side_of.Statement.{statement}
 use Rattle.level.proofs.side_of.Tie as tie
 

@@ -3,7 +3,7 @@ use mathlib.Core.Path.{_≡_, refl, sym, ap, _∙_}
 use mathlib.Core.Bool.{_&&_}
 use Prim.Native.Nat.{ℕ, _-_, _≤_}
 use native.Mathlib.Omega.{arith}
-use Rattle.record.specs.Fields.{zeros}
+use Rattle.record.specs.Records.{zeros}
 use Rattle.record.proofs.Fields.{zeros-next, zeros-end}
 use Rattle.record.proofs.blank.Statement.{statement}
 use Rattle.record.proofs.blank.Tie as tie

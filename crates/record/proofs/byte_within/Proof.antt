@@ -1,6 +1,6 @@
 -- `record::byte_within` meets its contract. Assumes nothing.
-use borrow.Author.Needs.{needs}
 use mathlib.Core.Path.{refl}
+use borrow.Author.Needs.{needs}
 use Rattle.record.proofs.byte_within.Statement.{statement}
 use Rattle.record.proofs.byte_within.Tie as tie
 

@@ -1,11 +1,10 @@
 -- `record::closing_good` meets its contract: its tests are the definition's, in the definition's order. Assumes nothing.
-use borrow.Author.Needs.{needs}
-use lib.Dec.{eqb}
-use borrow.Author.Tests.{eq-eqb, ne-eqb}
 use mathlib.Core.Path.{refl}
-use Rattle.record.specs.Fields.{byte}
-use Rattle.record.specs.Closing.{closingGood, closingTests}
+use lib.Dec.{eqb}
+use borrow.Author.Needs.{needs}
+use borrow.Author.Tests.{eq-eqb, ne-eqb}
 use Rattle.units.proofs.Tests.{done, also, chained}
+use Rattle.record.specs.Records.{byte, closingGood, closingTests}
 use Rattle.record.proofs.closing_good.Statement.{statement}
 use Rattle.record.proofs.closing_good.Tie as tie
 

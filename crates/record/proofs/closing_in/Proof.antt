@@ -1,6 +1,6 @@
 -- `record::closing_in` meets its contract, field by field. Assumes nothing.
 use borrow.Author.Needs.{needs}
-use Rattle.record.specs.Closing.{closingIn}
+use Rattle.record.specs.Records.{closingIn}
 use Rattle.record.proofs.closing_in.Statement.{statement}
 use Rattle.record.proofs.closing_in.Tie as tie
 

@@ -1,7 +1,7 @@
 -- `record::read_closing` meets its contract. Assumes nothing.
-use borrow.Author.Needs.{needs}
 use mathlib.Core.Path.{sym, _∙_}
-use Rattle.record.specs.Closing.{closingOf}
+use borrow.Author.Needs.{needs}
+use Rattle.record.specs.Records.{closingOf}
 use Rattle.record.proofs.ClosingRanges.{closing-ranges}
 use Rattle.record.proofs.read_closing.Statement.{statement}
 use Rattle.record.proofs.read_closing.Tie as tie

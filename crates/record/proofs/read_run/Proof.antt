@@ -1,7 +1,7 @@
 -- `record::read_run` meets its contract. Assumes nothing.
-use borrow.Author.Needs.{needs}
 use mathlib.Core.Path.{sym, _∙_}
-use Rattle.record.specs.Layout.{runOf}
+use borrow.Author.Needs.{needs}
+use Rattle.record.specs.Records.{runOf}
 use Rattle.record.proofs.Layouts.{run-ranges, left-no-nan, right-no-nan}
 use Rattle.record.proofs.read_run.Statement.{statement}
 use Rattle.record.proofs.read_run.Tie as tie

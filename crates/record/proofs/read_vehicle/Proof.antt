@@ -1,7 +1,7 @@
 -- `record::read_vehicle` meets its contract. Assumes nothing.
-use borrow.Author.Needs.{needs}
 use mathlib.Core.Path.{sym, _∙_}
-use Rattle.record.specs.Vehicle.{vehicleOf}
+use borrow.Author.Needs.{needs}
+use Rattle.record.specs.Records.{vehicleOf}
 use Rattle.record.proofs.VehicleRanges.{vehicle-ranges}
 use Rattle.record.proofs.read_vehicle.Statement.{statement}
 use Rattle.record.proofs.read_vehicle.Tie as tie

@@ -1,7 +1,7 @@
 -- `record::readable_at` meets its contract. Assumes nothing.
-use borrow.Author.Needs.{needs}
 use mathlib.Core.Path.{sym, ap, _∙_}
-use Rattle.record.specs.Layout.{readable}
+use borrow.Author.Needs.{needs}
+use Rattle.record.specs.Records.{readable}
 use Rattle.record.proofs.readable_at.Statement.{statement}
 use Rattle.record.proofs.readable_at.Tie as tie
 

@@ -1,6 +1,6 @@
 -- `record::reading_from` meets its contract. Assumes nothing.
 use borrow.Author.Tests.{eq-eqb, ne-eqb}
-use Rattle.record.specs.Run.{readingFrom}
+use Rattle.record.specs.Records.{readingFrom}
 use Rattle.record.proofs.reading_from.Statement.{statement}
 use Rattle.record.proofs.reading_from.Tie as tie
 

@@ -2,7 +2,7 @@
 use borrow.Author.Needs.{needs}
 use borrow.Author.Tests.{eq-eqb, ne-eqb}
 use Rattle.units.proofs.Tests.{done, also, chained}
-use Rattle.record.specs.Layout.{runGood, runTests}
+use Rattle.record.specs.Records.{runGood, runTests}
 use Rattle.record.proofs.run_good.Statement.{statement}
 use Rattle.record.proofs.run_good.Tie as tie
 

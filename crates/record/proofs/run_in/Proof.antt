@@ -1,6 +1,6 @@
 -- `record::run_in` meets its contract, field by field. Assumes nothing.
 use borrow.Author.Needs.{needs}
-use Rattle.record.specs.Run.{runIn}
+use Rattle.record.specs.Records.{runIn}
 use Rattle.record.proofs.run_in.Statement.{statement}
 use Rattle.record.proofs.run_in.Tie as tie
 

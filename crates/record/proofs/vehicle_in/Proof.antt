@@ -1,6 +1,6 @@
 -- `record::vehicle_in` meets its contract, field by field. Assumes nothing.
 use borrow.Author.Needs.{needs}
-use Rattle.record.specs.Vehicle.{vehicleIn}
+use Rattle.record.specs.Records.{vehicleIn}
 use Rattle.record.proofs.vehicle_in.Statement.{statement}
 use Rattle.record.proofs.vehicle_in.Tie as tie
 

@@ -1,6 +1,6 @@
 -- `result::read_back` meets its contract, field by field. Assumes nothing.
 use borrow.Author.Needs.{needs}
-use Rattle.result.specs.Fields.{outcomeIn}
+use Rattle.result.specs.Result.{outcomeIn}
 use Rattle.result.proofs.read_back.Statement.{statement}
 use Rattle.result.proofs.read_back.Tie as tie
 

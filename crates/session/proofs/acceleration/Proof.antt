@@ -1,7 +1,7 @@
 -- `session::acceleration` meets its contract. Assumes nothing.
-use borrow.Author.Needs.{needs}
 use mathlib.Core.Path.{sym}
-use Rattle.session.specs.State.{gearAcceleration}
+use borrow.Author.Needs.{needs}
+use Rattle.session.specs.Session.{gearAcceleration}
 use Rattle.session.proofs.acceleration.Statement.{statement}
 use Rattle.session.proofs.acceleration.Tie as tie
 

@@ -1,6 +1,6 @@
 -- `session::slow_enough` meets its contract. Assumes nothing.
 use mathlib.Core.Path.{refl}
-use Rattle.session.specs.State.{slowEnough}
+use Rattle.session.specs.Session.{slowEnough}
 use Rattle.session.proofs.slow_enough.Statement.{statement}
 use Rattle.session.proofs.slow_enough.Tie as tie
 

@@ -1,7 +1,7 @@
 -- `session::state_of` meets its contract. Assumes nothing.
-use borrow.Author.Needs.{needs}
 use mathlib.Core.Path.{sym, _∙_}
-use Rattle.session.specs.State.{stateOf}
+use borrow.Author.Needs.{needs}
+use Rattle.session.specs.Session.{stateOf}
 use Rattle.session.proofs.state_of.Statement.{statement}
 use Rattle.session.proofs.state_of.Tie as tie
 

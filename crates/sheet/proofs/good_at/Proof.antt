@@ -1,9 +1,7 @@
 -- `sheet::good_at` meets its contract, place by place. Assumes nothing.
-use borrow.Author.Needs.{needs}
 use mathlib.Core.Path.{sym, ap, _∙_}
-use Rattle.record.specs.Vehicle.{vehicleGood}
-use Rattle.record.specs.Closing.{closingGood}
-use Rattle.record.specs.Layout.{runGood}
+use borrow.Author.Needs.{needs}
+use Rattle.record.specs.Records.{vehicleGood, runGood, closingGood}
 use Rattle.sheet.proofs.Examinations.{first-place, last-place, middle-place}
 use Rattle.sheet.proofs.good_at.Statement.{statement}
 use Rattle.sheet.proofs.good_at.Tie as tie

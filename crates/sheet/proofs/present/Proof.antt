@@ -1,25 +1,24 @@
 -- `sheet::present` meets its contract: each gear of a run passed is marked, and no other. Assumes nothing.
-use borrow.Author.Needs.{needs}
 use mathlib.Core.Path.{_≡_, refl, sym, ap, _∙_}
-use native.Mathlib.Omega.{arith}
 use mathlib.Core.Bool.{true, false, _&&_}
 use mathlib.Core.List.{List}
-use Prim.Native.Nat.{ℕ, _-_, _≤_}
-use lib.Dec.{eqb}
-use lib.ListN.{length, length-set, getD-replicate, set}
-use borrow.Author.Tests.{eq-eqb, ne-eqb}
 use mathlib.Core.Logic.{⊎-elim}
-use Rattle.record.specs.Records.{records, recordAt}
-use Rattle.record.specs.Fields.{byte}
+use Prim.Native.Nat.{ℕ, _-_, _≤_}
+use native.Mathlib.Omega.{arith}
+use lib.ListN.{length, length-set, getD-replicate, set}
+use borrow.Author.Needs.{needs}
+use borrow.Author.Tests.{eq-eqb, ne-eqb}
+use Rattle.units.specs.Tests.{some}
+use Rattle.record.specs.Records.{records, recordAt, byte}
 use Rattle.record.proofs.Shown.{record-long}
-use Rattle.sheet.specs.Presence.{some, accelerates, hasRun}
-use Rattle.sheet.proofs.Presence.{Seen, seen-start, seen-run, seen-other, seen-end}
 use Rattle.record.proofs.Layouts.{RunRanges, run-ranges}
+use Rattle.sheet.specs.Sheet.{hasByte, accelerates, hasAcceleration}
+use Rattle.sheet.proofs.Presence.{Marked, marked-start, marked-run, marked-other, marked-end}
 use Rattle.sheet.proofs.present.Statement.{statement}
 use Rattle.sheet.proofs.present.Tie as tie
 
 abbrev Inv-loop : tie.InvT-loop
-Inv-loop sheet last seen₀ i₀ seen i = (length seen ≡ 17) × (1 ≤ i) × Seen sheet last seen i
+Inv-loop sheet last seen₀ i₀ seen i = (length seen ≡ 17) × (1 ≤ i) × Marked sheet last seen i
 
 abbrev μ-loop : tie.MeasureT-loop
 μ-loop sheet last seen₀ i₀ seen i = last - i
@@ -29,7 +28,7 @@ unfolding records
 sub-last c = omega (arith, c .before .pre .two)
 
 loop-holds : tie.Need-loop-holds Inv-loop μ-loop
-loop-holds c = (refl, omega arith, seen-start _ _ _ (λ g h. getD-replicate 17 g false false (omega arith)))
+loop-holds c = (refl, omega arith, marked-start _ _ _ (λ g h. getD-replicate 17 g false false (omega arith)))
 
 at-requires : tie.Need-at-requires Inv-loop μ-loop
 at-requires c κs = search needs
@@ -77,7 +76,7 @@ loop-less : tie.Need-loop-less Inv-loop μ-loop
 loop-less c = omega arith
 
 loop-again : tie.Need-loop-again Inv-loop μ-loop
-unfolding accelerates records
+unfolding records
 loop-again c =
     let e = c .before .before in
     let s = e .before .before .before .before .args .sheet .now in
@@ -86,16 +85,16 @@ loop-again c =
     (λ w.
     let marked : c .if1 .seen ≡ set (l .seen) (byte (recordAt s (l .i)) 1) true = w .2 ∙ ap (λ (g : ℕ). set (l .seen) g true) (gear e) in
     rw marked
-    (length-set (l .seen) (byte (recordAt s (l .i)) 1) true ∙ l .inv .0, omega arith, seen-run s (records s - 1) (l .seen) (l .i) (e .before .loop-test .taken) (eq-eqb _ _ (sym (kind e) ∙ w .0 .taken)) (omega (arith, l .inv .0, ranges e .gear .1)) (l .inv .2)))
-    (λ w. rw (w .1) (l .inv .0, omega arith, seen-other s (records s - 1) (l .seen) (l .i) (e .before .loop-test .taken) (ne-eqb _ _ (λ k. w .0 .left (kind e ∙ k))) (l .inv .2)))
+    (length-set (l .seen) (byte (recordAt s (l .i)) 1) true ∙ l .inv .0, omega arith, marked-run s (records s - 1) (l .seen) (l .i) (e .before .loop-test .taken) (eq-eqb _ _ (sym (kind e) ∙ w .0 .taken)) (omega (arith, l .inv .0, ranges e .gear .1)) (l .inv .2)))
+    (λ w. rw (w .1) (l .inv .0, omega arith, marked-other s (records s - 1) (l .seen) (l .i) (e .before .loop-test .taken) (ne-eqb _ _ (λ k. w .0 .left (kind e ∙ k))) (l .inv .2)))
     (c .if1 .came)
 
 returns : tie.Need-returns Inv-loop μ-loop
-unfolding hasRun records
+unfolding hasAcceleration records
 returns c =
     let s = c .before .before .before .args .sheet .now in
     let l = c .before .loop in
-    λ g h. seen-end s (records s - 1) (l .seen) (l .i) (c .loop-test .left) (l .inv .2) g h ∙ ap (some (λ n. accelerates s n && eqb (byte (recordAt s n) 1) g) 1) (fewer s)
+    λ g h. marked-end s (records s - 1) (l .seen) (l .i) (c .loop-test .left) (l .inv .2) g h ∙ ap (λ (n : ℕ). some (λ k. accelerates s k && hasByte s 1 g k) n 1) (fewer s)
 
 pub present-spec : {M : Type 1} → statement M
 present-spec =

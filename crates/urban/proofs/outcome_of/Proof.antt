@@ -1,18 +1,15 @@
 -- `urban::outcome_of` meets its contract, field by field. Assumes nothing.
 use borrow.Author.Needs.{needs}
-use Rattle.urban.specs.Outcome.{outcomeOf}
+use Rattle.urban.specs.Urban.{outcomeOf}
 use Rattle.urban.proofs.outcome_of.Statement.{statement}
 use Rattle.urban.proofs.outcome_of.Tie as tie
-
-basis-of-requires : tie.Need-basis-of-requires
-basis-of-requires c κs = search needs
 
 l-urban-requires : tie.Need-l-urban-requires
 l-urban-requires c κs = search needs
 
 returns : tie.Need-returns
 unfolding outcomeOf
-returns c = simp (c .before .l-urban .ensures, c .before .before .before .before .before .basis-of .ensures)
+returns c = simp (c .before .l-urban .ensures)
 
 pub outcome-of-spec : {M : Type 1} → statement M
-outcome-of-spec = tie.close (tie.spec basis-of-requires l-urban-requires returns)
+outcome-of-spec = tie.close (tie.spec l-urban-requires returns)

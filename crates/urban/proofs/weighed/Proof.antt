@@ -1,10 +1,10 @@
 -- `urban::weighed` meets its contract: its two parts fit, and their sum rounds to the weighed level. Assumes nothing.
-use borrow.Author.Needs.{needs}
 use mathlib.Core.Path.{_≡_, sym, _∙_}
 use Prim.Native.Nat.{_-_}
 use native.Mathlib.Nat.{mul-le-mul-left}
 use native.Mathlib.Omega.{arith}
-use Rattle.urban.specs.Weighing.{weighedLevel}
+use borrow.Author.Needs.{needs}
+use Rattle.urban.specs.Urban.{weighedLevel}
 use Rattle.urban.proofs.Weights.{Parts, parts, weighed-sum, weighed-most}
 use Rattle.urban.proofs.weighed.Statement.{statement}
 use Rattle.urban.proofs.weighed.Tie as tie

@@ -1,9 +1,9 @@
 -- `valid_runs::valid` meets its contract: a run that is not struck goes by its two sides. Assumes nothing.
-use borrow.Author.Needs.{needs}
 use mathlib.Core.Path.{_≡_, sym, ap, ap₂, _∙_}
+use borrow.Author.Needs.{needs}
 use Rattle.level.specs.declared.Reading.{Reading}
-use Rattle.level.specs.Correction.{sideOf}
-use Rattle.valid_runs.specs.Valid.{bothSides, validOf}
+use Rattle.level.specs.Level.{sideOf}
+use Rattle.valid_runs.specs.ValidRuns.{bothSides, validOf}
 use Rattle.valid_runs.proofs.Validities.{struck-out, by-sides, left-out, right-out}
 use Rattle.valid_runs.proofs.valid.Statement.{statement}
 use Rattle.valid_runs.proofs.valid.Tie as tie

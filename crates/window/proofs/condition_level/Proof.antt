@@ -1,12 +1,12 @@
 -- `window::condition_level` meets its contract. Assumes nothing.
-use borrow.Author.Needs.{needs}
 use mathlib.Core.Path.{ap, ap₂, _∙_}
 use Prim.Native.Nat.{ℕ, max}
 use native.Mathlib.Omega.{arith}
 use lib.Dec.{lit<}
+use borrow.Author.Needs.{needs}
 use Rattle.units.specs.Rounding.{rounded}
 use Rattle.units.proofs.Rounding.{rounded-rising}
-use Rattle.window.specs.Four.{largerSum, conditionLevel}
+use Rattle.window.specs.Windows.{largerSum, conditionLevel}
 use Rattle.window.proofs.condition_level.Statement.{statement}
 use Rattle.window.proofs.condition_level.Tie as tie
 

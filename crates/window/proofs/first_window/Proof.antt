@@ -1,8 +1,8 @@
 -- `window::first_window` meets its contract: a walk of its MIR. The loop's state: no four neighbours before place i fit; its measure is how many places are left. Assumes nothing.
 use mathlib.Core.Path.{_≡_, refl, sym}
 use mathlib.Core.Bool.{not}
-use mathlib.Core.WellFounded.{WellFounded, InvImage·wf}
 use mathlib.Core.List.{List, [], _∷_}
+use mathlib.Core.WellFounded.{WellFounded, InvImage·wf}
 use Prim.Native.Nat.{ℕ, _<_, _≤_, _+_, _-_, _^_, zero-le}
 use native.Mathlib.Omega.{arith}
 use lib.ListN.{length}
@@ -45,15 +45,12 @@ use Rattle.window.specs.declared.ValidRun.{ValidRun}
 use Rattle.window.specs.declared.Four.{Four}
 use Rattle.window.specs.declared.Window.{Window}
 use Rattle.window.specs.declared.Window.the-variants.{Runs, Nothing}
-use Rattle.window.specs.Four.{fitting}
-use Rattle.window.specs.Windows.{fourAt, firstWindow}
+use Rattle.window.specs.Windows.{fitting, fourAt, firstWindow}
 use Rattle.window.proofs.Searches.{Reached, reached-start, reached-next, found-here, found-nowhere}
-use Rattle.window.proofs.Walking.{word, slice, holds, fails, after, freed, answers}
+use Rattle.window.proofs.Walking.{machineWord, slice, holds, fails, after, freed, answers}
 use Rattle.window.proofs.ValidRun as S
 use Rattle.window.proofs.Four as F
-use Rattle.window.proofs.Four.Laws as F′
 use Rattle.window.proofs.Window as D
-use Rattle.window.proofs.Window.Laws as D′
 use Rattle.window.proofs.places as places
 use Rattle.window.proofs.places.Symbol as places-def
 use Rattle.window.proofs.places.Symbol.{name as #places}
@@ -68,9 +65,11 @@ use Rattle.window.proofs.fits.Symbol.{name as #fits}
 use Rattle.window.proofs.fits.Met as fits-thm
 use Rattle.window.proofs.first_window.Key.{name as #first-window}
 use Rattle.window.proofs.first_window as first-window
-use Rattle.window.proofs.first_window.Statement as stated
 use Rattle.window.proofs.first_window.Code as code
 use Rattle.window.proofs.first_window.Code.Mir as parts
+use Rattle.window.proofs.Four.Laws as F′
+use Rattle.window.proofs.Window.Laws as D′
+use Rattle.window.proofs.first_window.Statement as stated
 
 abbrev stayed : Stays (first-window.ended .signature .params) (first-window.ended .kept)
 stayed = (stay-dropped (shrSliceOf (0 ∷ []) tt (plain (λ _. S.the-row))) yes, tt)
@@ -165,11 +164,11 @@ module _ {M : Type 1} (𝓤 : URA M) (H : Heap 𝓤) (A : Atoms 𝓤) (W : Given
 
     module _ (l₀ l₁ l₂ l₃ l₄ l₅ l₆ l₇ : ℕ) where
       abbrev En : Env 𝓤 H
-      En = (D′.mir, l₀) ∷ (slice, l₁) ∷ (word, l₂) ∷ (word, l₃) ∷ (F′.mir, l₄) ∷ (word, l₅) ∷ (tyBool, l₆) ∷ (tyBool, l₇) ∷ []
+      En = (D′.mir, l₀) ∷ (slice, l₁) ∷ (machineWord, l₂) ∷ (machineWord, l₃) ∷ (F′.mir, l₄) ∷ (machineWord, l₅) ∷ (tyBool, l₆) ∷ (tyBool, l₇) ∷ []
 
       abbrev Held : Upto → List (Item 𝓤)
-      Held i = ‵ Own ∷ ‵ (flft κ q) ∷ ‵ (froom tyBool l₇ 0) ∷ ‵ (fdies tyBool l₇) ∷ ‵ (froom tyBool l₆ 0) ∷ ‵ (fdies tyBool l₆) ∷ ‵ (fat fullShare word l₅ 0 (vint w64 n)) ∷ ‵ (fdies word l₅) ∷ ‵ (froom F′.mir l₄ 0) ∷ ‵ (fdies F′.mir l₄)
-          ∷ ‵ (fat fullShare word l₃ 0 (vint w64 (i .0))) ∷ ‵ (fdies word l₃) ∷ ‵ (fat fullShare word l₂ 0 (vint w64 (n - 3))) ∷ ‵ (fdies word l₂) ∷ ‵ (fat fullShare slice l₁ 0 v) ∷ ‵ (fdies slice l₁) ∷ ‵ (froom D′.mir l₀ 0) ∷ ‵ (fdies D′.mir l₀) ∷ []
+      Held i = ‵ Own ∷ ‵ (flft κ q) ∷ ‵ (froom tyBool l₇ 0) ∷ ‵ (fdies tyBool l₇) ∷ ‵ (froom tyBool l₆ 0) ∷ ‵ (fdies tyBool l₆) ∷ ‵ (fat fullShare machineWord l₅ 0 (vint w64 n)) ∷ ‵ (fdies machineWord l₅) ∷ ‵ (froom F′.mir l₄ 0) ∷ ‵ (fdies F′.mir l₄)
+          ∷ ‵ (fat fullShare machineWord l₃ 0 (vint w64 (i .0))) ∷ ‵ (fdies machineWord l₃) ∷ ‵ (fat fullShare machineWord l₂ 0 (vint w64 (n - 3))) ∷ ‵ (fdies machineWord l₂) ∷ ‵ (fat fullShare slice l₁ 0 v) ∷ ‵ (fdies slice l₁) ∷ ‵ (froom D′.mir l₀ 0) ∷ ‵ (fdies D′.mir l₀) ∷ []
 
       -- a turn's postcondition: it ends nearer, or the loop is left and the rest of the body runs
       abbrev Turned : Upto → Out → SProp 𝓤

@@ -1,8 +1,8 @@
 -- `window::fits` meets its contract. Assumes nothing.
-use borrow.Author.Needs.{needs}
 use mathlib.Core.Path.{ap₂}
 use mathlib.Core.Bool.{_&&_}
-use Rattle.window.specs.Four.{fitting}
+use borrow.Author.Needs.{needs}
+use Rattle.window.specs.Windows.{fitting}
 use Rattle.window.proofs.fits.Statement.{statement}
 use Rattle.window.proofs.fits.Tie as tie
 

@@ -36,16 +36,16 @@ use denote.Triple.Walked.{says, needs, Stays, stay-dropped, walkOf, goes-dropped
 use denote.Exit.{yes}
 use Rattle.window.specs.declared.ValidRun.{ValidRun}
 use Rattle.window.specs.declared.Four.{Four}
-use Rattle.window.specs.Windows.{noRun, fourAt}
+use Rattle.window.specs.Windows.{emptyRun, fourAt}
 use Rattle.window.proofs.ValidRun as S
-use Rattle.window.proofs.ValidRun.Laws as S′
 use Rattle.window.proofs.Four as F
-use Rattle.window.proofs.Four.Laws as F′
 use Rattle.window.proofs.Walking.{vals, Ok, freed, copies-run}
 use Rattle.window.proofs.four_at.Key.{name as #four-at}
 use Rattle.window.proofs.four_at as four-at
-use Rattle.window.proofs.four_at.Statement as stated
 use Rattle.window.proofs.four_at.Code as code
+use Rattle.window.proofs.ValidRun.Laws as S′
+use Rattle.window.proofs.Four.Laws as F′
+use Rattle.window.proofs.four_at.Statement as stated
 
 abbrev stayed : Stays (four-at.ended .signature .params) (four-at.ended .kept)
 stayed = (stay-dropped (shrSliceOf (0 ∷ []) tt (plain (λ _. S.the-row))) yes, (stay-dropped (plain (λ _. usize)) yes, tt))
@@ -62,7 +62,7 @@ module _ {M : Type 1} (𝓤 : URA M) (H : Heap 𝓤) (A : Atoms 𝓤) (W : Given
 
   -- the four runs
   abbrev r : ℕ → ValidRun
-  r j = getD ys j noRun
+  r j = getD ys j emptyRun
 
   abbrev four : Four
   four = record { a = r i; b = r (i + 1); c = r (i + 2); d = r (i + 3) }

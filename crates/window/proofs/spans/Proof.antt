@@ -1,6 +1,6 @@
 -- `window::spans` meets its contract. Assumes nothing.
 use borrow.Author.Needs.{needs}
-use Rattle.window.specs.Four.{spanned}
+use Rattle.window.specs.Windows.{spanned}
 use Rattle.window.proofs.spans.Statement.{statement}
 use Rattle.window.proofs.spans.Tie as tie
 

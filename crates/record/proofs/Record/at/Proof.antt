@@ -1,8 +1,8 @@
 -- `record::Record::at` meets its contract. Assumes nothing.
-use borrow.Author.Needs.{needs}
 use mathlib.Core.Path.{_≡_, sym}
 use Prim.Native.Nat.{_+_, _-_, _*_}
 use native.Mathlib.Omega.{arith}
+use borrow.Author.Needs.{needs}
 use Rattle.record.specs.Records.{records}
 use Rattle.record.proofs.Shown.{shown, none}
 use Rattle.record.proofs.Record.at.Statement.{statement}
