@@ -1,8 +1,8 @@
 #!/usr/bin/env python3
-"""What the test program `levels` must print: every 32-bit float from 20.0 to 140.0 rounded to a tenth.
+"""What the test program `every_level` must print: every 32-bit float from 20.0 to 140.0 rounded to a tenth.
 
-    python3 tools/levels.py > crates/levels/stdout
-    python3 tools/levels.py | cmp - crates/levels/stdout
+    python3 tools/every_level.py > crates/every_level/stdout
+    python3 tools/every_level.py | cmp - crates/every_level/stdout
 
 It is reckoned by fractions from the bounds of each tenth, not float by float. A line `from L N D S T` stands for the
 floats of ten decibels from L on (140.0 alone in the last): N of them, D that differ (none), the sum S of their tenths,
