@@ -1,5 +1,5 @@
--- What is decided for a byte string (document 01, "Refusals and what remains"): the first refusal of the table whose cause holds, or the fields of the
--- result. Rows 2 to 5 are the sheet's, rows 6 to 10 are here; row 1 is the evaluation's.
+-- What is decided for a byte string (document 01, "Refusals and what remains"): the first refusal of the table whose cause holds, or the fields
+-- of the result. Rows 2 to 5 are the sheet's, rows 6 to 10 are here; row 1 is the evaluation's.
 use mathlib.Core.Bool.{Bool, cond, not, _||_}
 use mathlib.Core.List.{List}
 use Prim.Native.Nat.{ℕ, _+_, _-_}

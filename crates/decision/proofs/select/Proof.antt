@@ -40,7 +40,7 @@ add-measure-at : tie.Need-add-measure-at
 add-measure-at c = let e = c .before .before in omega (arith, pair-inside e, e .before .before .before .pre .1 .0)
 
 measure-at-requires-3 : tie.Need-measure-at-requires-3
-measure-at-requires-3 c κs = let s = c .before .before .before .before .before in (s .pre .0, (pair-inside (c .before .before), s .pre .1 .0))
+measure-at-requires-3 c κs = let s = c .before .before .before .before .before in (s .pre .0, (omega (arith, pair-inside (c .before .before)), s .pre .1 .0))
 
 pair-of-requires : tie.Need-pair-of-requires
 pair-of-requires c κs = search needs
