@@ -5,7 +5,7 @@ use libc::STDOUT_FILENO;
 // Room for the longest sheet of the file; some are over the limit of a sheet.
 const LONGEST: usize = 65536;
 
-// The next length; what is past LONGEST where the file ends.
+// The next length, or a number above LONGEST where the file ends.
 fn read_length(fd: i32) -> usize {
     let mut four = [0u8; 4];
     if io::read_full(fd, &mut four) < 4 {

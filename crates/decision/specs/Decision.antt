@@ -1,78 +1,110 @@
--- What a byte string decides on: the first refusal of document 01's table whose cause holds, or the fields of the result.
-use Prim.Native.Nat.{ℕ, _+_, _-_, max}
-use mathlib.Core.Bool.{cond, not, _||_}
+-- What is decided for a byte string (document 01, "Refusals and what remains"): the first refusal of the table whose cause holds, or the fields
+-- of the result. Rows 2 to 5 are the sheet's, rows 6 to 10 are here; row 1 is the evaluation's.
+use mathlib.Core.Bool.{Bool, cond, not, _||_}
 use mathlib.Core.List.{List}
+use Prim.Native.Nat.{ℕ, _+_, _-_}
 use lib.Dec.{ltb}
-use lib.ListN.{length}
-use Rattle.vehicle.specs.declared.Vehicle.{Vehicle}
-use Rattle.closing.specs.declared.Closing.{Closing}
+use lib.ListN.{length, getD}
+use Rattle.refusal.specs.declared.Refusal.the-variants as refusal
+use Rattle.record.specs.declared.Vehicle.{Vehicle}
+use Rattle.record.specs.declared.Closing.{Closing}
+use Rattle.record.specs.Records.{recordAt, vehicleIn, pathOf, closingIn}
 use Rattle.sheet.specs.declared.Examination.{Examination}
 use Rattle.sheet.specs.declared.Examination.the-variants as examination
-use Rattle.records.specs.Records.{recordAt}
-use Rattle.vehicle.specs.Vehicle.{vehicleIn, pathOf}
-use Rattle.closing.specs.Closing.{closingIn}
-use Rattle.sheet.specs.Examining.{lastOf, examined}
-use Rattle.reference.specs.Reference.{pmrOf, aUrban, aRef}
-use Rattle.four.specs.declared.Four.{Four}
+use Rattle.sheet.specs.Sheet.{lastOf, examined, anyAcceleration}
+use Rattle.window.specs.declared.Four.{Four}
+use Rattle.window.specs.declared.Window.{Window}
+use Rattle.window.specs.declared.Window.the-variants as window
+use Rattle.window.specs.Windows.{emptyFour}
+use Rattle.valid_runs.specs.ValidRuns.{backgroundOf}
+use Rattle.reference.specs.declared.Reference.{Reference}
+use Rattle.reference.specs.Reference.{pmrOf, referenceAt}
 use Rattle.gears.specs.declared.Gear.{Gear}
-use Rattle.rules.specs.declared.Choice.{Choice}
-use Rattle.gears.specs.Remaining.{firstNotFalling}
-use Rattle.rules.specs.Rules.{choiceOf}
-use Rattle.state.specs.State.{Track}
-use Rattle.session.specs.Table.{lowestLacking, gearsOf, windowsOf}
-use Rattle.presence.specs.Presence.{anyRun}
-use Rattle.weighing.specs.declared.Reference.{Reference}
-use Rattle.outcome.specs.Outcome.{outcomeOf}
-use Rattle.refusal.specs.declared.Refusal.the-variants as refusal
-use Rattle.selection.specs.declared.Selection.{Selection}
-use Rattle.selection.specs.declared.Selection.the-variants as selection
-use Rattle.selection.specs.Selection.{gearAt, selectedIn, selectionBy}
+use Rattle.gears.specs.declared.Choice.{Choice}
+use Rattle.gears.specs.declared.Choice.the-variants as choice
+use Rattle.gears.specs.Rules.{gearAt, firstNotFalling, choiceOf}
+use Rattle.session.specs.declared.Track.{Track}
+use Rattle.session.specs.Session.{Session, sessionOf, windowIn, lowestNoWindow, gearsOf, windowsOf}
+use Rattle.urban.specs.declared.Chosen.the-variants.{One, Pair}
+use Rattle.urban.specs.Urban.{Straddled, basisOf, outcomeOf}
+use Rattle.decision.specs.declared.Measured.{Measured}
+use Rattle.decision.specs.declared.Measured.the-variants as measured
+use Rattle.decision.specs.declared.Selection.{Selection}
+use Rattle.decision.specs.declared.Selection.the-variants as selection
 use Rattle.decision.specs.declared.Decision.{Decision}
 use Rattle.decision.specs.declared.Decision.the-variants.{Refused, Result}
 
--- ---- what a whole sheet is evaluated by
+-- ---- row 6
 
--- The background is the larger of before and after.
-unfoldable pub trackIn : List ℕ → Vehicle → Closing → Track
-trackIn s v z =
-    record {
-      sheet = s;
-      background = max (v .background .0) (z .background .0);
-      S = v .«rated_speed»;
-      path = pathOf v;
-    }
+-- PMR, in tenths, is under 5.0 or over 600.0
+abbrev pub outOfRange : ℕ → Bool
+outOfRange q = ltb q 50 || ltb 6000 q
 
-unfoldable pub referenceAt : ℕ → Reference
-referenceAt q = record { pmr = q; «a_urban» = record { 0 = aUrban q }; «a_ref» = record { 0 = aRef q } }
+-- ---- rows 9 and 10: the chosen gears with their windows, or the refusal
 
--- ---- the table of refusals
+-- the acceleration window of the gear at a place
+unfoldable pub windowAt : List Four → ℕ → Four
+windowAt ws p = getD ws p emptyFour
+
+-- row 10 for a gear with its acceleration window, by its constant-speed window
+unfoldable pub measuredBy : Gear → Four → Window → Measured
+measuredBy g f window.Nothing = measured.Refused (refusal.NoConstantSpeed (g .number))
+measuredBy g f (window.Runs h) = measured.Windows (record { gear = g; «acceleration_window» = f; «constant_window» = h })
+
+-- the gear at a place of the remaining ones; a constant-speed run is of kind 3
+unfoldable pub measuredAt : Session → List Gear → List Four → ℕ → Measured
+measuredAt t gs ws p = let g = gearAt gs p in measuredBy g (windowAt ws p) (windowIn t 3 (g .number))
+
+unfoldable pub oneOf : ℕ → Measured → Selection
+oneOf rule (measured.Refused x) = selection.Refused x
+oneOf rule (measured.Windows g) = selection.Chosen (One rule g)
+
+-- gear i has the lower number, so its window is asked first
+unfoldable pub pairOf : ℕ → Measured → Measured → Selection
+pairOf rule (measured.Refused x) m = selection.Refused x
+pairOf rule (measured.Windows i) (measured.Refused x) = selection.Refused x
+pairOf rule (measured.Windows i) (measured.Windows j) = selection.Chosen (Pair rule i j)
+
+-- row 9: no gear remains, or no rule applies
+unfoldable pub selectedIn : Session → List Gear → List Four → Choice → Selection
+selectedIn t gs ws choice.Nothing = selection.Refused refusal.NoRule
+selectedIn t gs ws (choice.One rule p) = oneOf rule (measuredAt t gs ws p)
+selectedIn t gs ws (choice.Pair rule p) = pairOf rule (measuredAt t gs ws p) (measuredAt t gs ws (p + 1))
+
+-- what the rules give of a selection: of a pair, a_ref lies between the two accelerations
+abbrev pub Straddling : Reference → Selection → Type 0
+Straddling r (selection.Refused x) = Unit {0}
+Straddling r (selection.Chosen c) = Straddled r c
+
+-- ---- the rows in order
 
 -- the result of what was selected, against a limit
 unfoldable pub finishBy : Reference → ℕ → Selection → Decision
-finishBy r limit (selection.Lacking x) = Refused x
-finishBy r limit (selection.Chosen c) = Result (outcomeOf c r limit)
+finishBy r limit (selection.Refused x) = Refused x
+finishBy r limit (selection.Chosen c) = Result (outcomeOf r limit (basisOf r c))
 
 -- Rows 8 to 10, over the remaining gears and their acceleration windows: neighbours that do not fall, no rule, no constant-speed window.
-unfoldable pub decideGears : Reference → ℕ → List ℕ → ℕ → List Gear → List Four → Decision
-decideGears r limit s background gs ws =
+unfoldable pub decideGears : Reference → ℕ → Session → List Gear → List Four → Decision
+decideGears r limit t gs ws =
     cond (ltb (firstNotFalling gs) (length gs - 1)) (Refused (refusal.NotFalling (gearAt gs (firstNotFalling gs) .number)))
-    (finishBy r limit (selectionBy r (selectedIn s background gs ws (choiceOf (r .«a_ref» .0) (r .«a_urban» .0) gs))))
+    (finishBy r limit (selectedIn t gs ws (choiceOf r gs)))
 
 -- rows 6 to 10, for a whole sheet of PMR q (in tenths)
-unfoldable pub decideWhole : Track → ℕ → ℕ → Decision
+unfoldable pub decideWhole : Session → ℕ → ℕ → Decision
 decideWhole t q limit =
-    cond (ltb q 50 || ltb 6000 q) (Refused refusal.PmrOutOfRange)
-    (cond (not (anyRun (t .sheet))) (Refused refusal.NoRun)
-    (cond (ltb (lowestLacking t) 16) (Refused (refusal.NoWindow (lowestLacking t + 1)))
-    (decideGears (referenceAt q) limit (t .sheet) (t .background) (gearsOf t) (windowsOf t))))
+    cond (outOfRange q) (Refused refusal.PmrOutOfRange)
+    (cond (not (anyAcceleration (t .sheet))) (Refused refusal.NoRun)
+    (cond (ltb (lowestNoWindow t) 16) (Refused (refusal.NoWindow (lowestNoWindow t + 1)))
+    (decideGears (referenceAt q) limit t (gearsOf t) (windowsOf t))))
+
+-- what a whole sheet is evaluated by
+unfoldable pub trackOf : Vehicle → Closing → Track
+trackOf v z = record { background = record { 0 = backgroundOf (v .background .0) (z .background .0) }; rated = v .«rated_speed»; path = pathOf v }
 
 -- rows 2 to 5 are the examination's
 unfoldable pub decideBy : List ℕ → Examination → Decision
-decideBy s examination.WrongSize = Refused refusal.WrongSize
-decideBy s examination.NoVehicle = Refused refusal.NoVehicle
-decideBy s (examination.NoClosing n) = Refused (refusal.NoClosing n)
-decideBy s (examination.BrokenRecord n) = Refused (refusal.BrokenRecord n)
-decideBy s (examination.Whole v z) = decideWhole (trackIn s v z) (pmrOf (v .power) (v .mass)) (v .limit)
+decideBy s (examination.Refused x) = Refused x
+decideBy s (examination.Whole v z) = decideWhole (sessionOf s (trackOf v z)) (pmrOf (v .power) (v .mass)) (v .limit)
 
 unfoldable pub decisionOf : List ℕ → Decision
 decisionOf s = decideBy s (examined s)
@@ -83,11 +115,22 @@ decisionOf s = decideBy s (examined s)
 unfoldable pub sheetVehicle : List ℕ → Vehicle
 sheetVehicle s = vehicleIn (recordAt s 0)
 
-unfoldable pub sheetTrack : List ℕ → Track
-sheetTrack s = trackIn s (sheetVehicle s) (closingIn (recordAt s (lastOf s)))
+unfoldable pub sheetClosing : List ℕ → Closing
+sheetClosing s = closingIn (recordAt s (lastOf s))
+
+unfoldable pub sheetSession : List ℕ → Session
+sheetSession s = sessionOf s (trackOf (sheetVehicle s) (sheetClosing s))
 
 unfoldable pub pmrIn : List ℕ → ℕ
 pmrIn s = pmrOf (sheetVehicle s .power) (sheetVehicle s .mass)
 
+-- PMR, a_urban and a_ref
+unfoldable pub referenceIn : List ℕ → Reference
+referenceIn s = referenceAt (pmrIn s)
+
 unfoldable pub choiceIn : List ℕ → Choice
-choiceIn s = choiceOf (aRef (pmrIn s)) (aUrban (pmrIn s)) (gearsOf (sheetTrack s))
+choiceIn s = choiceOf (referenceIn s) (gearsOf (sheetSession s))
+
+-- the gear or the pair that the rules decide on, with its windows
+unfoldable pub selectionIn : List ℕ → Selection
+selectionIn s = let t = sheetSession s in selectedIn t (gearsOf t) (windowsOf t) (choiceIn s)

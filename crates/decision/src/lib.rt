@@ -1,69 +1,163 @@
-// What a byte string decides on: the first refusal of the table whose cause holds, or the fields of the result.
-use closing::Closing;
-use four::Four;
+// What is decided for a byte string: the first refusal of the table whose cause holds (rows 2 to 10), or the fields of the result. No buffer is
+// known here.
+use gears::Choice;
 use gears::Gear;
-use outcome::Outcome;
+use record::Closing;
+use record::Record;
+use record::Vehicle;
+use reference::Reference;
 use refusal::Refusal;
-use selection::Selection;
+use session::Table;
+use session::Track;
 use sheet::Examination;
-use units::Tenths;
-use vehicle::Vehicle;
-use weighing::Reference;
+use urban::Chosen;
+use urban::ChosenGear;
+use urban::Outcome;
+use window::Four;
+use window::Window;
 ghost use mathlib.Core.Path.{_≡_};
-ghost use Prim.Native.Nat.{_+_, _≤_};
-ghost use lib.ListN.{take};
-ghost use Rattle.sheet.specs.Examining.{examined};
-ghost use Rattle.run_record.specs.Runs.{RunsGood};
-ghost use Rattle.decision.specs.Decision.{finishBy, decideGears, decisionOf};
+ghost use Prim.Native.Nat.{_≤_, _<_};
+ghost use lib.ListN.{length};
 ghost use Rattle.sheet.specs.declared.Examination.the-variants.{Whole};
-ghost use Rattle.selection.specs.Sound.{Weighable};
+ghost use Rattle.sheet.specs.Sheet.{examined, RunsGood};
+ghost use Rattle.gears.specs.Rules.{Inside};
+ghost use Rattle.session.specs.Session.{sessionOf, windowIn, gearsIn, windowsIn};
+ghost use Rattle.decision.specs.Decision.{measuredBy, measuredAt, oneOf, pairOf, selectedIn, Straddling, finishBy, decideGears, trackOf, decisionOf};
 
-// What a sheet decides on.
-pub enum Decision {
+// A gear with both its windows, or the refusal if it has no constant-speed window.
+pub enum Measured {
+    Windows(ChosenGear),
     Refused(Refusal),
-    Result(Outcome),
 }
 
-// The result of what was selected.
-fn finish_with(selection: Selection, reference: Reference, limit: u16) -> Decision
-    requires { ⌜ Weighable reference selection ⌝ }
-    ensures { λ r. ⌜ r ≡ finishBy reference limit selection ⌝ }
+// The chosen gears with their windows, or a refusal.
+pub enum Selection {
+    Chosen(Chosen),
+    Refused(Refusal),
+}
+
+// What is decided for a sheet.
+pub enum Decision {
+    Result(Outcome),
+    Refused(Refusal),
+}
+
+// A gear with its acceleration window: its constant-speed window is looked for.
+fn measure(sheet: &[u8], track: Track, g: Gear, f: Four) -> Measured
+    requires { ⌜ RunsGood (now sheet) ⌝ }
+    ensures { λ r. ⌜ r ≡ measuredBy g f (windowIn (sessionOf (now (sheet .entry)) track) 3 (g .number)) ⌝ }
 {
-    match selection {
-        Selection::Lacking(x) => Decision::Refused(x),
-        Selection::Chosen(chosen) => Decision::Result(outcome::outcome_of(
-            chosen,
-            reference,
-            limit,
-        )),
+    match valid_runs::window_of(sheet, track.condition(Record::CONSTANT_SPEED, g.number)) {
+        Window::Runs(h) => Measured::Windows(ChosenGear {
+            gear: g,
+            acceleration_window: f,
+            constant_window: h,
+        }),
+        Window::Nothing => Measured::Refused(Refusal::NoConstantSpeed(g.number)),
     }
 }
 
-// Rows 8 to 10, from the first `count` of a session's gears and windows.
+// The gear at a place of the table.
+fn measure_at(sheet: &[u8], track: Track, table: Table, p: usize) -> Measured
+    requires { ⌜ RunsGood (now sheet) ⌝ }
+    requires { ⌜ (p < table .count) × (table .count ≤ 16) ⌝ }
+    ensures { λ r. ⌜ r ≡ measuredAt (sessionOf (now (sheet .entry)) track) (gearsIn table) (windowsIn table) p ⌝ }
+{
+    let g = table.gears[p];
+    let f = table.windows[p];
+    measure(sheet, track, g, f)
+}
+
+// One gear, chosen by a rule.
+fn one_of(rule: u8, m: Measured) -> Selection
+    ensures { λ r. ⌜ r ≡ oneOf rule m ⌝ }
+{
+    match m {
+        Measured::Windows(g) => Selection::Chosen(Chosen::One(rule, g)),
+        Measured::Refused(x) => Selection::Refused(x),
+    }
+}
+
+// Gears i and j, chosen by a rule. Gear i has the lower number: it is refused first.
+fn pair_of(rule: u8, i: Measured, j: Measured) -> Selection
+    ensures { λ r. ⌜ r ≡ pairOf rule i j ⌝ }
+{
+    let g = match i {
+        Measured::Windows(g) => g,
+        Measured::Refused(x) => return Selection::Refused(x),
+    };
+    match j {
+        Measured::Windows(h) => Selection::Chosen(Chosen::Pair(rule, g, h)),
+        Measured::Refused(x) => Selection::Refused(x),
+    }
+}
+
+// Rows 9 and 10: the gear or the pair of the choice, with its windows.
+fn select(sheet: &[u8], track: Track, table: Table, choice: Choice) -> Selection
+    requires { ⌜ RunsGood (now sheet) ⌝ }
+    requires { ⌜ (table .count ≤ 16) × Inside (table .count) choice ⌝ }
+    ensures { λ r. ⌜ r ≡ selectedIn (sessionOf (now (sheet .entry)) track) (gearsIn table) (windowsIn table) choice ⌝ }
+{
+    match choice {
+        Choice::One(rule, p) => one_of(rule, measure_at(sheet, track, table, p)),
+        Choice::Pair(rule, p) => {
+            let i = measure_at(sheet, track, table, p);
+            let j = measure_at(sheet, track, table, p + 1);
+            pair_of(rule, i, j)
+        }
+        Choice::Nothing => Selection::Refused(Refusal::NoRule),
+    }
+}
+
+// The result of what was selected.
+fn finish_with(reference: Reference, limit: u16, selection: Selection) -> Decision
+    requires { ⌜ Straddling reference selection ⌝ }
+    ensures { λ r. ⌜ r ≡ finishBy reference limit selection ⌝ }
+{
+    match selection {
+        Selection::Chosen(chosen) => Decision::Result(urban::outcome_of(
+            reference,
+            limit,
+            urban::basis_of(reference, chosen),
+        )),
+        Selection::Refused(x) => Decision::Refused(x),
+    }
+}
+
+// Rows 8 to 10, from the table of a session.
 fn decide_table(
     sheet: &[u8],
-    background: Tenths,
+    track: Track,
     reference: Reference,
     limit: u16,
-    gears: [Gear; 16],
-    windows: [Four; 16],
-    count: usize,
+    table: Table,
 ) -> Decision
     requires { ⌜ RunsGood (now sheet) ⌝ }
-    requires { ⌜ count ≤ 16 ⌝ }
-    ensures { λ r. ⌜ r ≡ decideGears reference limit (now (sheet .entry)) (background .0) (take count gears) (take count windows) ⌝ }
+    requires { ⌜ (table .count ≤ 16) × (length (gearsIn table) ≡ table .count) ⌝ }
+    ensures { λ r. ⌜ r ≡ decideGears reference limit (sessionOf (now (sheet .entry)) track) (gearsIn table) (windowsIn table) ⌝ }
 {
+    let gears = table.gears;
+    let count = table.count;
     let p = gears::first_not_falling(gears, count);
     if p + 1 < count {
         let g = gears[p];
         return Decision::Refused(Refusal::NotFalling(g.number));
     }
-    let choice = rules::choose(gears, count, reference.a_ref, reference.a_urban);
-    finish_with(
-        selection::select(sheet, background, reference, gears, windows, count, choice),
-        reference,
-        limit,
-    )
+    let choice = gears::choose(gears, count, reference);
+    finish_with(reference, limit, select(sheet, track, table, choice))
+}
+
+// What a session is evaluated by.
+fn track_of(v: Vehicle, z: Closing) -> Track
+    requires { ⌜ v .length ≤ 2000 ⌝ }
+    ensures { λ r. ⌜ r ≡ trackOf v z ⌝ }
+{
+    let background = valid_runs::background(v.background, z.background);
+    Track {
+        background,
+        rated: v.rated_speed,
+        path: record::path_of(v),
+    }
 }
 
 // Rows 6 to 10, for a whole sheet.
@@ -72,49 +166,27 @@ fn decide_whole(sheet: &[u8], v: Vehicle, z: Closing) -> Decision
     ensures { λ r. ⌜ r ≡ decisionOf (now (sheet .entry)) ⌝ }
 {
     let pmr = reference::pmr(v.power, v.mass);
-    if pmr < 50 {
+    if (pmr < 50) | (6000 < pmr) {
         return Decision::Refused(Refusal::PmrOutOfRange);
     }
-    if 6000 < pmr {
-        return Decision::Refused(Refusal::PmrOutOfRange);
-    }
-    if !presence::any_run(sheet) {
+    if !sheet::any_acceleration(sheet) {
         return Decision::Refused(Refusal::NoRun);
     }
-    let background = valid::background(v.background, z.background);
-    let table = session::table_of(sheet, background, v.rated_speed, vehicle::path_of(v));
-    let lacking = table.lacking;
-    if lacking < 16 {
-        return Decision::Refused(Refusal::NoWindow((lacking + 1) as u8));
+    let track = track_of(v, z);
+    let table = session::table_of(sheet, track);
+    if table.no_window < 16 {
+        return Decision::Refused(Refusal::NoWindow((table.no_window + 1) as u8));
     }
-    let q = pmr as u16;
-    let reference = Reference {
-        pmr: q,
-        a_urban: reference::a_urban(q),
-        a_ref: reference::a_ref(q),
-    };
-    let gears = table.gears;
-    let windows = table.windows;
-    decide_table(
-        sheet,
-        background,
-        reference,
-        v.limit,
-        gears,
-        windows,
-        table.count,
-    )
+    let reference = reference::reference_at(pmr as u16);
+    decide_table(sheet, track, reference, v.limit, table)
 }
 
-// What any byte string decides on.
+// What is decided for any byte string.
 pub fn decide(sheet: &[u8]) -> Decision
     ensures { λ r. ⌜ r ≡ decisionOf (now (sheet .entry)) ⌝ }
 {
     match sheet::examine(sheet) {
         Examination::Whole(v, z) => decide_whole(sheet, v, z),
-        Examination::WrongSize => Decision::Refused(Refusal::WrongSize),
-        Examination::NoVehicle => Decision::Refused(Refusal::NoVehicle),
-        Examination::NoClosing(n) => Decision::Refused(Refusal::NoClosing(n)),
-        Examination::BrokenRecord(n) => Decision::Refused(Refusal::BrokenRecord(n)),
+        Examination::Refused(x) => Decision::Refused(x),
     }
 }

@@ -1,14 +1,14 @@
 // Document 01's driven examples, and what stands under "Where the spreadsheet tempts", by single functions: each on a line.
-use four::Four;
-use four::ValidRun;
+use gears::Choice;
 use gears::Gear;
+use level::Reading;
+use level::Side;
 use libc::STDOUT_FILENO;
-use reading::Reading;
-use rules::Choice;
-use side::Side;
+use reference::Reference;
 use units::Hundredths;
 use units::Tenths;
-use weighing::Reference;
+use window::Four;
+use window::ValidRun;
 ghost use Prim.Native.Nat.{_≤_};
 
 // A line of a text and a number.
@@ -27,7 +27,7 @@ fn two(text: &[u8], m: u64, n: u64) {
 
 // The corrected level, in tenths, of a level over a background in tenths.
 fn side(text: &[u8], x: f32, background: u16) {
-    match side::side_of(Reading::Level(x), Tenths(background)) {
+    match level::side_of(Reading::Level(x), Tenths(background)) {
         Side::Corrected(t) => one(text, t.0 as u64),
         Side::NotValid => {
             io::write_all(STDOUT_FILENO, text);
@@ -58,7 +58,7 @@ fn run_of(left: u16, right: u16) -> ValidRun {
 // Whether a, b and twice c are a window: 1 if so.
 fn window(text: &[u8], a: ValidRun, b: ValidRun, c: ValidRun) {
     let four = Four { a, b, c, d: c };
-    one(text, four::fits(four) as u64);
+    one(text, window::fits(four) as u64);
 }
 
 fn windows() {
@@ -98,6 +98,13 @@ fn references() {
     one(b"PMR of 100.0 and 1500 ", reference::pmr(1000, 1500) as u64);
 }
 
+// PMR 66.7, a_urban 1.06, a_ref 1.49.
+const CAR: Reference = Reference {
+    pmr: 667,
+    a_urban: Hundredths(106),
+    a_ref: Hundredths(149),
+};
+
 // The rule, and the place among the two gears, from 0; nothing where the rules choose no gear alone.
 fn choice() {
     let mut gears = [Gear {
@@ -108,7 +115,7 @@ fn choice() {
         number: 3,
         acceleration: Hundredths(142),
     };
-    let chosen = rules::choose(gears, 2, Hundredths(149), Hundredths(106));
+    let chosen = gears::choose(gears, 2, CAR);
     if let Choice::One(rule, place) = chosen {
         two(
             b"R 1.49, gears 1.56 and 1.42 one ",
@@ -118,14 +125,9 @@ fn choice() {
     }
 }
 
-// kp and L_urban of one gear, at PMR 66.7.
+// kp and L_urban of one gear.
 fn urban(text: &[u8], a: u16, w: u16, c: u16) {
-    let reference = Reference {
-        pmr: 667,
-        a_urban: Hundredths(106),
-        a_ref: Hundredths(149),
-    };
-    let l = urban::l_urban(reference, Hundredths(a), Tenths(w), Tenths(c));
+    let l = urban::l_urban(CAR, Hundredths(a), Tenths(w), Tenths(c));
     two(text, l.kp as u64, l.level as u64);
 }
 
@@ -133,13 +135,13 @@ fn main() {
     sides();
     windows();
     references();
-    let a = acceleration::run_acceleration(440, 560, 2450);
+    let a = gears::run_acceleration(440, 560, 2450);
     one(b"44.0 to 56.0, length 450, AA' ", a.0 as u64);
     choice();
     urban(b"a 1.00, W 66.0, C 66.0 ", 100, 660, 660);
     urban(b"a 1.00, W 65.0, C 66.0 ", 100, 650, 660);
     urban(b"a 1.56, W 72.0, C 65.0 ", 156, 720, 650);
     // k × (L(i) − L(j)) is minus half a tenth
-    let w = weighing::weighed(50, Tenths(700), Tenths(701));
+    let w = urban::weighed(50, Tenths(700), Tenths(701));
     one(b"k 0.50, L(i) 70.0, L(j) 70.1 ", w.0 as u64);
 }

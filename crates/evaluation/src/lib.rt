@@ -1,12 +1,13 @@
-// The evaluation of a sheet: any byte string to a result, or to one numbered refusal.
+// The evaluation of a sheet: any byte string to a result, or to one numbered refusal, with what it promises. Beside the code stand the table of
+// refusals, close and rising, all as definitions of bytes.
 use decision::Decision;
 use refusal::Answer;
 use refusal::Refusal;
 ghost use mathlib.Core.Path.{_≡_};
 ghost use lib.ListN.{length};
-ghost use Rattle.promises.specs.Answer.{answerOf, bufferOf};
-ghost use Rattle.promises.specs.Demand.{CloseTo, RisesFrom};
 ghost use Rattle.units.specs.Bytes.{number};
+ghost use Rattle.evaluation.specs.Answer.{answerOf, bufferOf};
+ghost use Rattle.evaluation.specs.Demand.{CloseTo, RisesFrom};
 
 // The evaluation of a sheet: on success the result stands in the first 32 bytes of `result`; on a refusal no byte changes.
 pub fn evaluate(sheet: &[u8], result: &mut [u8]) -> Answer

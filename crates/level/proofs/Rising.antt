@@ -1,15 +1,15 @@
 -- A level that is not smaller has no fewer tenths; the tenths of a level in range are from 200 to 1400. Assumes nothing.
 use mathlib.Core.Path.{_≡_}
+use mathlib.Core.Bool.{true, false}
 use Prim.Native.Nat.{ℕ, _*_, _≤_}
 use native.Mathlib.Omega.{arith}
-use mathlib.Core.Bool.{true, false}
 use lib.Dec.{T, lit<}
 use lib.Ieee.{Float, nan, inf, fin, up, down, lt}
 use lib.Ieee.Fits.{down-pos}
 use borrow.Author.Tests.{ltb-false}
 use Rattle.units.specs.Rounding.{rounded}
 use Rattle.units.proofs.Rounding.{rounded-rising}
-use Rattle.reading.specs.Range.{inRange}
+use Rattle.level.specs.Reading.{inRange}
 use Rattle.level.specs.Level.{tenthsOf}
 use Rattle.level.proofs.Scaled.{ends}
 

@@ -1,10 +1,10 @@
 -- 2^19 times a level is a whole number n: an `f32` has 24 binary digits, and from 20 on none of them is below 2^-19. n is at most
 -- 140 * 2^19, which an `f64` holds, so the product is exact and the cast to a `u32` gives n. Assumes nothing.
 use mathlib.Core.Path.{_≡_, sym, ap, _∙_}
+use mathlib.Core.Bool.{true, false, not, _&&_}
 use Prim.Native.Nat.{ℕ, zero, suc, _-_, _*_, _%_, _^_, _≤_, _<_}
 use native.Mathlib.Nat.{le-of-suc-le-suc, lt-of-not-le, mul-assoc, le-of-mul-le-mul-right}
 use native.Mathlib.Omega.{arith}
-use mathlib.Core.Bool.{true, false, not, _&&_}
 use lib.IntN.{ℤ, pos, negsuc}
 use lib.Dec.{T, leb, ltb, eqb, lit<, ltb→lt, leb→le, le→leb}
 use lib.Pow.{pow-add, pow-mono}
@@ -15,7 +15,7 @@ use lib.Ieee.Scale as Scale
 use lib.Ieee.Back.{unsigned-back}
 use Rattle.units.specs.Rounding.{rounded}
 use Rattle.units.proofs.Rounding.{rounded-same}
-use Rattle.reading.specs.Range.{inRange}
+use Rattle.level.specs.Reading.{inRange}
 use Rattle.level.specs.Level.{tenthsOf}
 
 -- ---- the ends of the range, of a positive float
@@ -66,7 +66,7 @@ product x = mul binary64 x (ofBits binary64 0x4120_0000_0000_0000)
 
 pub record Scaled (x : Float) : Type 0 where
   pub number : T (not (isNan x))
-  pub fitting : T (inUnsigned binary64 32 (product x))
+  pub fits : T (inUnsigned binary64 32 (product x))
   pub small : toUnsigned 32 (product x) ≤ 73400320
   pub tenths : rounded (10 * toUnsigned 32 (product x)) 524288 ≡ tenthsOf x
 
@@ -96,7 +96,7 @@ scaled (fin false m e) t r =
     let is : toUnsigned 32 (product (fin false m e)) ≡ n = ap (toUnsigned 32) x ∙ b .1 in
     record {
       number = tt;
-      fitting = rw x (b .0);
+      fits = rw x (b .0);
       small = rw is top;
       tenths = rw is (rounded-same (10 * n) 524288 (10 * a) d (lit< tt) (down-pos e) (omega arith));
     }

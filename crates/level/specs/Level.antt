@@ -1,11 +1,41 @@
--- A level in tenths. A finite float `fin s m e` has the exact value m × 2^e, the fraction m * up e / down e, and is negative where s is true.
-use Prim.Native.Nat.{ℕ, _*_}
+-- From a reading to the corrected level of one side (document 01, "From levels to windows", steps 1 to 3). All levels are in tenths of dB(A).
+use mathlib.Core.Bool.{cond}
+use mathlib.Core.List.{List, [], _∷_}
+use Prim.Native.Nat.{ℕ, _*_, _-_, _/_}
+use lib.Dec.{leb}
 use lib.Ieee.{Float, nan, inf, fin, up, down}
+use lib.ListN.{getD}
 use Rattle.units.specs.Rounding.{rounded}
+use Rattle.level.specs.declared.Reading.{Reading}
+use Rattle.level.specs.declared.Reading.the-variants.{Level, Overload, Absent}
+use Rattle.level.specs.declared.Side.{Side}
+use Rattle.level.specs.declared.Side.the-variants.{Corrected, NotValid}
+use Rattle.level.specs.Reading.{inRange}
 
--- "From levels to windows", step 1: the exact value of a level rounded to a tenth, as a number of tenths. (A NaN and an infinity have
--- none: 0. Whether a float is a level is asked first.)
+-- Step 1: the exact value of a level rounded to a tenth, as a number of tenths. (A NaN and an infinity have none: 0. Whether a float is a level
+-- is asked first.)
 unfoldable pub tenthsOf : Float → ℕ
 tenthsOf nan = 0
 tenthsOf (inf s) = 0
 tenthsOf (fin s m e) = rounded (10 * (m * up e)) (down e)
+
+-- document 000's corrections for a difference of 10, 11, 12, 13, 14 and 15 dB
+unfoldable pub corrections : List ℕ
+corrections = 5 ∷ 4 ∷ 3 ∷ 2 ∷ 1 ∷ 0 ∷ []
+
+-- Step 2: the correction for a difference of d tenths, d at least 100. The fraction of d is dropped first; above 15 dB, past the end of
+-- the table, nothing is taken off.
+unfoldable pub correctionOf : ℕ → ℕ
+correctionOf d = getD corrections (d / 10 - 10) 0
+
+-- Steps 2 and 3 on one side: d is the level less its background (0 for a level below it). A side counts from d 10.0 on.
+unfoldable pub correctedSide : ℕ → ℕ → Side
+correctedSide level background =
+    let d = level - background in
+    cond (leb 100 d) (Corrected (record { 0 = level - correctionOf d })) NotValid
+
+-- Step 3 on one side: only a level counts, not an overload and not an absent reading. A level out of range, which no sheet has, does not.
+unfoldable pub sideOf : Reading → ℕ → Side
+sideOf (Level x) background = cond (inRange x) (correctedSide (tenthsOf x) background) NotValid
+sideOf (Overload x) background = NotValid
+sideOf Absent background = NotValid

@@ -1,11 +1,11 @@
 -- The line that the evaluation program prints (document 01, after the whole sheet's table), in ASCII codes.
-use Prim.Native.Nat.{ℕ}
 use mathlib.Core.List.{List, [], _∷_, _++_}
-use Rattle.text.specs.Text.{spaced}
-use Rattle.fields.specs.Fields.{outcomeIn, fieldsOf}
-use Rattle.refusal.specs.Refusal.{numberOf, placeOf}
+use Prim.Native.Nat.{ℕ}
 use Rattle.refusal.specs.declared.Answer.{Answer}
 use Rattle.refusal.specs.declared.Answer.the-variants.{Accepted, Refused}
+use Rattle.refusal.specs.Refusal.{numberOf, placeOf}
+use Rattle.result.specs.Result.{outcomeIn, fieldsOf}
+use Rattle.text.specs.Text.{spaced}
 
 -- "OK"
 unfoldable pub acceptedWord : List ℕ

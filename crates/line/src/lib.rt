@@ -3,15 +3,15 @@ use refusal::Answer;
 ghost use mathlib.Core.Path.{_≡_};
 ghost use Prim.Native.Nat.{_≤_};
 ghost use lib.ListN.{length, take};
-ghost use Rattle.fields.specs.Fields.{outcomeIn, fieldsOf};
+ghost use Rattle.result.specs.Result.{outcomeIn, fieldsOf};
 ghost use Rattle.line.specs.Line.{lineOf};
 
 // The 13 fields of the result record as they are printed, pass last.
-fn numbers_of(result: &[u8]) -> [u64; 13]
+fn fields_of(result: &[u8]) -> [u64; 13]
     requires { ⌜ 32 ≤ length (now result) ⌝ }
     ensures { λ r. ⌜ r ≡ fieldsOf (outcomeIn (now (result .entry))) ⌝ }
 {
-    let o = fields::read_back(result);
+    let o = result::read_back(result);
     let pass = if o.pass { 1 } else { 0 };
     [
         o.rule as u64,
@@ -38,7 +38,7 @@ pub fn line(answer: Answer, result: &[u8], out: &mut [u8]) -> usize
     ensures { λ r. ⌜ take r (now (out .exit)) ≡ lineOf answer (now (result .entry)) ⌝ }
 {
     match answer {
-        Answer::Accepted => text::put_line(b"OK", &numbers_of(result), out),
+        Answer::Accepted => text::put_line(b"OK", &fields_of(result), out),
         Answer::Refused(r) => text::put_line(
             b"REFUSED",
             &[refusal::number(r) as u64, refusal::place(r) as u64],

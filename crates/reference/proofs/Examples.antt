@@ -3,7 +3,7 @@ use mathlib.Core.Bool.{Bool, _&&_}
 use Prim.Native.Nat.{ℕ}
 use lib.Dec.{T, eqb}
 use Rattle.units.specs.Rounding.{rounded}
-use Rattle.units.specs.Lowest.{lowest}
+use Rattle.units.specs.Tests.{lowest}
 use Rattle.reference.specs.Reference.{pmrOf, between, aUrban, aRef}
 
 are : ℕ → ℕ → ℕ → Bool

@@ -10,7 +10,7 @@ use lib.Dec.{T, leb, ltb, lit<, leb→le, le→leb, ltb→lt, lt→ltb}
 use lib.ListN.{length, getD}
 use lib.Ieee.Fits.{and-i, and-l, and-r}
 use borrow.Author.Tests.{ltb-true, ltb-false}
-use Rattle.units.specs.Lowest.{lowest}
+use Rattle.units.specs.Tests.{lowest}
 use Rattle.units.proofs.Table.{every, at}
 use Rattle.units.proofs.Lowest.{lowest-alone}
 use Rattle.reference.specs.Reference.{between}
@@ -54,13 +54,13 @@ unfoldable pub start : ℕ → ℕ → ℕ → ℕ → ℕ → Bool
 start e from below i s = leb (10 ^ (2 * (below + suc i) + from)) (s ^ e) && ltb ((s - 1) ^ e) (10 ^ (2 * (below + suc i) + from))
 
 -- What a table is for: the q from `first` to `last`, whose N go from `below` on, one more at each start. The test is computed.
-pub record Table (e from to below first last : ℕ) (starts : List ℕ) : Type 0 where
+pub record Starts (e from to below first last : ℕ) (starts : List ℕ) : Type 0 where
   pub step : to ≡ from + 2
   pub tested : T (every (start e from below) 0 starts)
   pub opens : T (leb (10 ^ (2 * below + from)) (first ^ e))
   pub closes : T (ltb (last ^ e) (10 ^ (2 * (below + length starts) + to)))
 
-module _ (e from to below first last : ℕ) (starts : List ℕ) (table : Table e from to below first last starts) (q r : ℕ) (placed : Placed starts q r) where
+module _ (e from to below first last : ℕ) (starts : List ℕ) (table : Starts e from to below first last starts) (q r : ℕ) (placed : Placed starts q r) where
   -- the start at a place
   entry : (i : ℕ) → i < length starts → let s = getD starts i 0 in Both (10 ^ (2 * (below + suc i) + from)) (s ^ e) ((s - 1) ^ e) (10 ^ (2 * (below + suc i) + from))
   unfolding start
@@ -74,7 +74,7 @@ module _ (e from to below first last : ℕ) (starts : List ℕ) (table : Table e
   lower h (suc i) s =
       let behind : r - 1 ≡ i = omega arith in
       let reached : getD starts i 0 ≤ q = rw behind at (placed .reached (omega arith)) in
-      le-trans (entry i (omega (arith, placed .within)) .least) (pow-le-pow-left reached e)
+      le-trans (entry i (omega (arith, placed .bounded)) .least) (pow-le-pow-left reached e)
 
   upper : q ≤ last → q ^ e < 10 ^ (2 * (below + r) + to)
   upper h = by (ltb r (length starts)) refl
@@ -86,7 +86,7 @@ module _ (e from to below first last : ℕ) (starts : List ℕ) (table : Table e
           let under : q ≤ getD starts r 0 - 1 = omega (arith, placed .short inside) in
           rw next at (lt-of-le-of-lt (pow-le-pow-left under e) (entry r inside .most))
       by false f =
-          let end : length starts ≡ r = le-antisymm (ltb-false r (length starts) f) (placed .within) in
+          let end : length starts ≡ r = le-antisymm (ltb-false r (length starts) f) (placed .bounded) in
           rw end at (lt-of-le-of-lt (pow-le-pow-left h e) (ltb→lt (last ^ e) (10 ^ (2 * (below + length starts) + to)) (table .closes)))
 
   -- the N of q is as many above `below` as q has starts behind it

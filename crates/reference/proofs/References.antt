@@ -7,7 +7,7 @@ use native.Mathlib.Nat.{add-zero, le-refl, lt-irrefl, le-trans, lt-of-le-of-lt, 
 use native.Mathlib.Omega.{arith}
 use lib.Dec.{T, leb, ltb, leb→le, ltb→lt}
 use borrow.Author.Tests.{ltb-true, ltb-false, lt-ltb, le-ltb}
-use Rattle.units.specs.Lowest.{lowest}
+use Rattle.units.specs.Tests.{lowest}
 use Rattle.reference.specs.Reference.{between, aUrban, aRef}
 use Rattle.reference.proofs.Powers.{tests, between-unique, lowest-between}
 
@@ -19,10 +19,10 @@ record Has (e from q low top : ℕ) : Type 0 where
   holds : T (between e from (from + 2) q N)
 
 -- a power of q between two powers of ten has an N: the exponents are two apart from one N to the next
-has : (e from q low : ℕ) → 10 ^ (2 * low + from) ≤ q ^ e → (n : ℕ) → q ^ e < 10 ^ (2 * (low + n) + from) → Has e from q low (low + n)
+bracketed : (e from q low : ℕ) → 10 ^ (2 * low + from) ≤ q ^ e → (n : ℕ) → q ^ e < 10 ^ (2 * (low + n) + from) → Has e from q low (low + n)
 unfolding between
-has e from q low l zero m = absurd (lt-irrefl _ (lt-of-lt-of-le (rw add-zero at m) l))
-has e from q low l (suc n) m = by (ltb (q ^ e) (10 ^ (2 * (low + n) + from))) refl (has e from q low l n)
+bracketed e from q low l zero m = absurd (lt-irrefl _ (lt-of-lt-of-le (rw add-zero at m) l))
+bracketed e from q low l (suc n) m = by (ltb (q ^ e) (10 ^ (2 * (low + n) + from))) refl (bracketed e from q low l n)
   where
     by : (b : Bool) → ltb (q ^ e) (10 ^ (2 * (low + n) + from)) ≡ b → (q ^ e < 10 ^ (2 * (low + n) + from) → Has e from q low (low + n)) → Has e from q low (low + suc n)
     by true t lower =
@@ -54,7 +54,7 @@ the e from q low high small h =
 module _ (q : ℕ) where
   reach : (e from low n first last : ℕ) → T (leb (10 ^ (2 * low + from)) (first ^ e)) → T (ltb (last ^ e) (10 ^ (2 * (low + n) + from))) → first ≤ q → q ≤ last → Has e from q low (low + n)
   reach e from low n first last l m lo hi =
-      has e from q low (le-trans (leb→le (10 ^ (2 * low + from)) (first ^ e) l) (pow-le-pow-left lo e)) n
+      bracketed e from q low (le-trans (leb→le (10 ^ (2 * low + from)) (first ^ e) l) (pow-le-pow-left lo e)) n
       (lt-of-le-of-lt (pow-le-pow-left hi e) (ltb→lt (last ^ e) (10 ^ (2 * (low + n) + from)) m))
 
   pub a-urban-the : 50 ≤ q → q ≤ 6000 → The 126 143 145 q 35 166 (aUrban q)

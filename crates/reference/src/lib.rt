@@ -5,8 +5,16 @@ mod starts;
 
 ghost use mathlib.Core.Path.{_≡_};
 ghost use Prim.Native.Nat.{_≤_, _<_};
-ghost use Rattle.reference.specs.Reference.{pmrOf, aUrban, aRef};
+ghost use Rattle.reference.specs.Reference.{pmrOf, aUrban, aRef, referenceAt};
 ghost use Rattle.reference.specs.Place.{Placed};
+
+// What follows from PMR.
+pub struct Reference {
+    // tenths
+    pub pmr: u16,
+    pub a_urban: Hundredths,
+    pub a_ref: Hundredths,
+}
 
 // PMR in tenths, from the power in tenths of kW and the mass in kg.
 pub fn pmr(power: u16, mass: u16) -> u32
@@ -50,4 +58,16 @@ pub fn a_ref(q: u16) -> Hundredths
         return a_urban(q);
     }
     Hundredths(81 + place(&starts::REF, q) as u16)
+}
+
+// PMR in tenths with the accelerations that follow from it.
+pub fn reference_at(q: u16) -> Reference
+    requires { ⌜ (50 ≤ q) × (q ≤ 6000) ⌝ }
+    ensures { λ r. ⌜ r ≡ referenceAt q ⌝ }
+{
+    Reference {
+        pmr: q,
+        a_urban: a_urban(q),
+        a_ref: a_ref(q),
+    }
 }

@@ -1,6 +1,8 @@
--- The number and the place of a refusal (document 01, "Refusals and what remains").
+-- The number and the place of a refusal, and of an answer (document 01, "Refusals and what remains").
 use Prim.Native.Nat.{ℕ}
 use Rattle.refusal.specs.declared.Refusal.{Refusal}
+use Rattle.refusal.specs.declared.Answer.{Answer}
+use Rattle.refusal.specs.declared.Answer.the-variants.{Accepted, Refused}
 use Rattle.refusal.specs.declared.Refusal.the-variants.{ShortBuffer, WrongSize, NoVehicle, NoClosing, BrokenRecord, PmrOutOfRange, NoRun, NoWindow, NotFalling, NoRule, NoConstantSpeed}
 
 -- the table's number of a refusal
@@ -30,3 +32,12 @@ placeOf (NoWindow g) = g
 placeOf (NotFalling g) = g
 placeOf NoRule = 0
 placeOf (NoConstantSpeed g) = g
+
+-- the number and the place of an answer: 0 and 0 for an accepted sheet
+abbrev pub answerNumber : Answer → ℕ
+answerNumber Accepted = 0
+answerNumber (Refused r) = numberOf r
+
+abbrev pub answerPlace : Answer → ℕ
+answerPlace Accepted = 0
+answerPlace (Refused r) = placeOf r

@@ -1,6 +1,6 @@
-// The causes of a refusal, each with its number and its place.
+// The causes of a refusal with their numbers and places, and the answer of an evaluation.
 ghost use mathlib.Core.Path.{_≡_};
-ghost use Rattle.refusal.specs.Refusal.{numberOf, placeOf};
+ghost use Rattle.refusal.specs.Refusal.{numberOf, placeOf, answerNumber, answerPlace};
 
 // The causes of a refusal, in the order in which they are checked.
 pub enum Refusal {
@@ -69,5 +69,25 @@ pub fn place(r: Refusal) -> usize
         Refusal::NotFalling(g) => g as usize,
         Refusal::NoRule => 0,
         Refusal::NoConstantSpeed(g) => g as usize,
+    }
+}
+
+// The number of an answer: 0 on success.
+pub fn answer_number(a: Answer) -> u8
+    ensures { λ n. ⌜ n ≡ answerNumber a ⌝ }
+{
+    match a {
+        Answer::Accepted => 0,
+        Answer::Refused(r) => number(r),
+    }
+}
+
+// The place of an answer: 0 on success.
+pub fn answer_place(a: Answer) -> usize
+    ensures { λ n. ⌜ n ≡ answerPlace a ⌝ }
+{
+    match a {
+        Answer::Accepted => 0,
+        Answer::Refused(r) => place(r),
     }
 }

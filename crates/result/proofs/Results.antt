@@ -6,7 +6,7 @@ use native.Mathlib.Nat.{div-add-mod}
 use native.Mathlib.Omega.{arith}
 use lib.ListN.{length}
 use Rattle.units.specs.Bytes.{number}
-use Rattle.outcome.specs.declared.Outcome.{Outcome}
+use Rattle.urban.specs.declared.Outcome.{Outcome}
 use Rattle.result.specs.Result.{lowByte, highByte, resultBytes}
 
 -- the two bytes of a number, low byte first, are the number
@@ -14,9 +14,9 @@ pub two-bytes : (n : ℕ) → lowByte n + 256 * (highByte n + 256 * 0) ≡ n
 two-bytes n = omega (arith, div-add-mod n 256)
 
 -- the number at byte 10 is L_urban
-pub at-ten : (o : Outcome) (rest : List ℕ) → number (resultBytes o ++ rest) 10 2 ≡ o .«l_urban»
+pub at-ten : (o : Outcome) (after : List ℕ) → number (resultBytes o ++ after) 10 2 ≡ o .«l_urban»
 unfolding resultBytes number
-at-ten o rest = two-bytes (o .«l_urban»)
+at-ten o after = two-bytes (o .«l_urban»)
 
 pub result-long : (o : Outcome) → length (resultBytes o) ≡ 32
 unfolding resultBytes

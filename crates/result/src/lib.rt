@@ -1,11 +1,13 @@
-// The result record: written from the fields of an outcome.
-use outcome::Outcome;
+// The result record: its 32 bytes from the fields of an outcome, and the fields read back from it. How the fields come about is not known here.
+use units::Hundredths;
+use units::Tenths;
+use urban::Outcome;
 ghost use mathlib.Core.Path.{_≡_};
 ghost use mathlib.Core.List.{_++_};
 ghost use Prim.Native.Nat.{_≤_};
 ghost use lib.ListN.{length, drop};
-ghost use Rattle.outcome.specs.Outcome.{flag};
-ghost use Rattle.result.specs.Result.{lowByte, highByte, resultBytes};
+ghost use Rattle.urban.specs.Urban.{flag};
+ghost use Rattle.result.specs.Result.{lowByte, highByte, resultBytes, outcomeIn};
 
 // The two bytes of a 16-bit number.
 fn low(n: u16) -> u8
@@ -76,5 +78,27 @@ pub fn write(outcome: Outcome, result: &mut [u8])
     while n < 32 {
         result[n] = bytes[n];
         n += 1;
+    }
+}
+
+// The fields of the result record at the front of `bytes`.
+pub fn read_back(bytes: &[u8]) -> Outcome
+    requires { ⌜ 32 ≤ length (now bytes) ⌝ }
+    ensures { λ r. ⌜ r ≡ outcomeIn (now (bytes .entry)) ⌝ }
+{
+    Outcome {
+        rule: bytes[0],
+        i: bytes[1],
+        j: bytes[2],
+        k: bytes[3],
+        kp: bytes[4],
+        pass: bytes[5] == 1,
+        w: Tenths(units::number16(bytes, 6)),
+        c: Tenths(units::number16(bytes, 8)),
+        l_urban: units::number16(bytes, 10),
+        a_urban: Hundredths(units::number16(bytes, 12)),
+        a_ref: Hundredths(units::number16(bytes, 14)),
+        pmr: units::number16(bytes, 16),
+        a: Hundredths(units::number16(bytes, 18)),
     }
 }

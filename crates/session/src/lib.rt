@@ -1,56 +1,134 @@
-// A session's gears: from a whole sheet to the table of the gears that remain.
-use four::Four;
-use four::ValidRun;
+// A session's gears: from a whole sheet to what becomes of each gear, and the table of those that remain. Which of them are chosen is not decided here.
 use gears::Gear;
-use state::State;
+use record::Record;
 use units::Hundredths;
 use units::Tenths;
+use valid_runs::Condition;
+use window::Four;
+use window::Window;
+ghost use mathlib.Core.Path.{_≡_};
 ghost use Prim.Native.Nat.{_≤_};
-ghost use Rattle.run_record.specs.Runs.{RunsGood};
-ghost use Rattle.state.specs.State.{trackOf};
-ghost use Rattle.session.specs.Table.{Tabled};
+ghost use Rattle.sheet.specs.Sheet.{RunsGood, hasAcceleration};
+ghost use Rattle.window.specs.Windows.{Each};
+ghost use Rattle.valid_runs.specs.ValidRuns.{NotSlower};
+ghost use Rattle.session.specs.Session.{sessionOf, conditionOf, windowIn, slowEnough, gearAcceleration, byWindow, stateOf, Tabled};
 
-// The gears that remain, in rising number, each with its acceleration window: the first `count` of both arrays. If a gear lacks a
-// window, `lacking` is its place, gear p + 1 at place p, and the arrays say nothing; else it is 16.
+// What a session is evaluated by, beside its runs.
+pub struct Track {
+    // the larger of before and after
+    pub background: Tenths,
+    // S, per minute
+    pub rated: u16,
+    // c + length, cm
+    pub path: u16,
+}
+
+impl Track {
+    // A gear and a run kind over the track's background.
+    pub fn condition(self, kind: u8, gear: u8) -> Condition
+        ensures { λ r. ⌜ r ≡ conditionOf self kind gear ⌝ }
+    {
+        let background = self.background;
+        Condition {
+            background,
+            kind,
+            gear,
+        }
+    }
+}
+
+// What becomes of a gear.
+pub enum State {
+    // with its acceleration window
+    Remains(Gear, Four),
+    // an engine speed above S
+    Dropped,
+    // acceleration runs, and no window among them
+    NoWindow,
+    // no acceleration run
+    NoRun,
+}
+
+fn slow_enough(f: Four, rated: u16) -> bool
+    ensures { λ r. ⌜ r ≡ slowEnough rated f ⌝ }
+{
+    (f.a.engine <= rated) & (f.b.engine <= rated) & (f.c.engine <= rated) & (f.d.engine <= rated)
+}
+
+fn acceleration(f: Four, path: u16) -> Hundredths
+    requires { ⌜ Each NotSlower f ⌝ }
+    requires { ⌜ (1000 ≤ path) × (path ≤ 4000) ⌝ }
+    ensures { λ r. ⌜ r .0 ≡ gearAcceleration path f ⌝ }
+{
+    let a = gears::run_acceleration(f.a.start, f.a.end, path);
+    let b = gears::run_acceleration(f.b.start, f.b.end, path);
+    let c = gears::run_acceleration(f.c.start, f.c.end, path);
+    let d = gears::run_acceleration(f.d.start, f.d.end, path);
+    gears::mean(a, b, c, d)
+}
+
+// A gear with an acceleration run, by its acceleration window.
+fn by_window(sheet: &[u8], track: Track, gear: u8) -> State
+    requires { ⌜ RunsGood (now sheet) ⌝ }
+    requires { ⌜ (1000 ≤ track .path) × (track .path ≤ 4000) ⌝ }
+    ensures { λ r. ⌜ r ≡ byWindow track gear (windowIn (sessionOf (now (sheet .entry)) track) 2 gear) ⌝ }
+{
+    match valid_runs::window_of(sheet, track.condition(Record::ACCELERATION, gear)) {
+        Window::Runs(f) => {
+            if slow_enough(f, track.rated) {
+                let a = acceleration(f, track.path);
+                State::Remains(
+                    Gear {
+                        number: gear,
+                        acceleration: a,
+                    },
+                    f,
+                )
+            } else {
+                State::Dropped
+            }
+        }
+        Window::Nothing => State::NoWindow,
+    }
+}
+
+// The state of a gear; `here` says whether it has an acceleration run.
+pub fn state_of(sheet: &[u8], track: Track, gear: u8, here: bool) -> State
+    requires { ⌜ RunsGood (now sheet) ⌝ }
+    requires { ⌜ (1000 ≤ track .path) × (track .path ≤ 4000) ⌝ }
+    requires { ⌜ here ≡ hasAcceleration (now sheet) gear ⌝ }
+    ensures { λ r. ⌜ r ≡ stateOf (sessionOf (now (sheet .entry)) track) gear ⌝ }
+{
+    if here {
+        by_window(sheet, track, gear)
+    } else {
+        State::NoRun
+    }
+}
+
+// The gears that remain, in rising number, each with its acceleration window: the first `count` of both arrays. If a gear has no window,
+// `no_window` is the place of the lowest such gear, gear p + 1 at place p, and the arrays say nothing; else it is 16.
 pub struct Table {
     pub gears: [Gear; 16],
     pub windows: [Four; 16],
     pub count: usize,
-    pub lacking: usize,
+    pub no_window: usize,
 }
 
-// The table of a session: its background, its rated engine speed S, and the path c + length in cm.
-pub fn table_of(sheet: &[u8], background: Tenths, rated: u16, path: u16) -> Table
+// The table of a session.
+pub fn table_of(sheet: &[u8], track: Track) -> Table
     requires { ⌜ RunsGood (now sheet) ⌝ }
-    requires { ⌜ (1000 ≤ path) × (path ≤ 4000) ⌝ }
-    ensures { λ r. ⌜ Tabled (trackOf (now (sheet .entry)) (background .0) rated path) r ⌝ }
+    requires { ⌜ (1000 ≤ track .path) × (track .path ≤ 4000) ⌝ }
+    ensures { λ r. ⌜ Tabled (sessionOf (now (sheet .entry)) track) r ⌝ }
 {
-    let seen = presence::present(sheet);
-    let no_run = ValidRun {
-        left: Tenths(0),
-        right: Tenths(0),
-        start: 0,
-        end: 0,
-        engine: 0,
-        number: 0,
-    };
-    let no_four = Four {
-        a: no_run,
-        b: no_run,
-        c: no_run,
-        d: no_run,
-    };
-    let no_gear = Gear {
-        number: 0,
-        acceleration: Hundredths(0),
-    };
-    let mut gears = [no_gear; 16];
-    let mut windows = [no_four; 16];
+    let seen = sheet::present(sheet);
+    let mut gears = [gears::EMPTY_GEAR; 16];
+    let mut windows = [window::EMPTY_FOUR; 16];
     let mut count: usize = 0;
     let mut p: usize = 0;
     while p < 16 {
         let here = seen[p + 1];
-        let state = state::state_of(sheet, background, rated, path, (p + 1) as u8, here);
+        let state = state_of(sheet, track, (p + 1) as u8, here);
         match state {
             State::Remains(g, f) => {
                 gears[count] = g;
@@ -62,7 +140,7 @@ pub fn table_of(sheet: &[u8], background: Tenths, rated: u16, path: u16) -> Tabl
                     gears,
                     windows,
                     count,
-                    lacking: p,
+                    no_window: p,
                 };
             }
             State::Dropped => {}
@@ -74,6 +152,6 @@ pub fn table_of(sheet: &[u8], background: Tenths, rated: u16, path: u16) -> Tabl
         gears,
         windows,
         count,
-        lacking: p,
+        no_window: p,
     }
 }

@@ -8,23 +8,21 @@ use lib.Dec.{eqb, ltb}
 use lib.ListN.{length}
 use borrow.Author.Tests.{eqb-true, eqb-false, ltb-false, not-false, eq-eqb, ne-eqb, lt-ltb, le-ltb}
 use Rattle.units.proofs.Lowest.{found}
-use Rattle.units.proofs.Tests.{chosen, neither}
-use Rattle.vehicle.specs.declared.Vehicle.{Vehicle}
-use Rattle.closing.specs.declared.Closing.{Closing}
+use Rattle.units.proofs.Tests.{by-test, neither}
+use Rattle.refusal.specs.declared.Refusal.the-variants.{WrongSize, NoVehicle, NoClosing, BrokenRecord}
+use Rattle.record.specs.declared.Vehicle.{Vehicle}
+use Rattle.record.specs.declared.Closing.{Closing}
+use Rattle.record.specs.Records.{records, recordAt, byte, word, vehicleGood, vehicleIn, runGood, closingGood, closingIn}
+use Rattle.record.proofs.VehicleRanges.{vehicle-ranges}
 use Rattle.sheet.specs.declared.Examination.{Examination}
-use Rattle.sheet.specs.declared.Examination.the-variants.{Whole, WrongSize, NoVehicle, NoClosing, BrokenRecord}
-use Rattle.records.specs.Records.{records, recordAt}
-use Rattle.records.specs.Fields.{byte, word}
-use Rattle.vehicle.specs.Vehicle.{vehicleGood, vehicleIn}
-use Rattle.closing.specs.Closing.{closingGood, closingIn}
-use Rattle.run_record.specs.Layout.{runGood}
-use Rattle.sheet.specs.Examining.{lastOf, wrongSize, noVehicle, noClosing, goodAt, lowestBroken, examined}
+use Rattle.sheet.specs.declared.Examination.the-variants.{Whole, Refused}
+use Rattle.sheet.specs.Sheet.{lastOf, wrongSize, noVehicle, noClosing, goodAt, lowestBroken, examined, RunsGood}
 
 -- ---- the size
 
 -- a sheet of the right size has whole records, at least one and at most 1,024
 pub record Sized (s : List ℕ) : Type 0 where
-  pub some : 0 < records s
+  pub not-empty : 0 < records s
   pub few : records s ≤ 1024
   pub whole : length s % 32 ≡ 0
 
@@ -37,7 +35,7 @@ sized s e =
     let nonempty = eqb-false n 0 (q .0) in
     let small = ltb-false 32768 n (q .1) in
     let whole = eqb-true (n % 32) 0 (not-false (eqb (n % 32) 0) (p .1)) in
-    record { some = omega arith; few = omega arith; whole = whole }
+    record { not-empty = omega arith; few = omega arith; whole = whole }
 
 -- ---- the layout of a record by its place
 
@@ -57,19 +55,19 @@ module _ (s : List ℕ) (i : ℕ) where
 -- ---- the rows, each with no earlier cause
 
 module _ (s : List ℕ) where
-  pub row-2 : wrongSize s ≡ true → examined s ≡ WrongSize
+  pub row-2 : wrongSize s ≡ true → examined s ≡ Refused WrongSize
   unfolding examined
   row-2 a = simp a
 
-  pub row-3 : wrongSize s ≡ false → noVehicle s ≡ true → examined s ≡ NoVehicle
+  pub row-3 : wrongSize s ≡ false → noVehicle s ≡ true → examined s ≡ Refused NoVehicle
   unfolding examined
   row-3 a b = simp (a, b)
 
-  pub row-4 : wrongSize s ≡ false → noVehicle s ≡ false → noClosing s ≡ true → examined s ≡ NoClosing (lastOf s)
+  pub row-4 : wrongSize s ≡ false → noVehicle s ≡ false → noClosing s ≡ true → examined s ≡ Refused (NoClosing (lastOf s))
   unfolding examined
   row-4 a b d = simp (a, b, d)
 
-  pub row-5 : wrongSize s ≡ false → noVehicle s ≡ false → noClosing s ≡ false → lowestBroken s < records s → examined s ≡ BrokenRecord (lowestBroken s)
+  pub row-5 : wrongSize s ≡ false → noVehicle s ≡ false → noClosing s ≡ false → lowestBroken s < records s → examined s ≡ Refused (BrokenRecord (lowestBroken s))
   unfolding examined
   row-5 a b d e = simp (a, b, d, lt-ltb (lowestBroken s) (records s) e)
 
@@ -111,7 +109,7 @@ module _ (s : List ℕ) (v : Vehicle) (z : Closing) where
       record {
         size = size;
         two = omega arith;
-        vehicle = sym (first-place s 0 refl) ∙ good 0 (size .some);
+        vehicle = sym (first-place s 0 refl) ∙ good 0 (size .not-empty);
         vehicle-is = cc;
         closing = sym (last-place s (lastOf s) (omega arith) refl) ∙ good (lastOf s) (omega arith);
         closing-is = same;
@@ -122,11 +120,31 @@ module _ (s : List ℕ) (v : Vehicle) (z : Closing) where
   pub whole : examined s ≡ Whole v z → WholeSheet s v z
   unfolding examined
   whole =
-      chosen Then (wrongSize s) _ _ (λ a k. absurd (let y : _≡_ {A = ℕ} 0 1 = cc in omega arith))
-      (λ a. chosen Then (noVehicle s) _ _ (λ b k. absurd (let y : _≡_ {A = ℕ} 0 1 = cc in omega arith))
-      (λ b. chosen Then (noClosing s) _ _ (λ d k. absurd (let y : _≡_ {A = ℕ} 0 1 = cc in omega arith))
-      (λ d. chosen Then (ltb (lowestBroken s) (records s)) _ _ (λ e k. absurd (let y : _≡_ {A = ℕ} 0 1 = cc in omega arith))
+      by-test Then (wrongSize s) _ _ (λ a k. absurd (let y : _≡_ {A = ℕ} 0 1 = cc in omega arith))
+      (λ a. by-test Then (noVehicle s) _ _ (λ b k. absurd (let y : _≡_ {A = ℕ} 0 1 = cc in omega arith))
+      (λ b. by-test Then (noClosing s) _ _ (λ d k. absurd (let y : _≡_ {A = ℕ} 0 1 = cc in omega arith))
+      (λ d. by-test Then (ltb (lowestBroken s) (records s)) _ _ (λ e k. absurd (let y : _≡_ {A = ℕ} 0 1 = cc in omega arith))
       (λ e. built a d (ltb-false (lowestBroken s) (records s) e)))))
     where
       Then : Examination → Type 0
       Then e = e ≡ Whole v z → WholeSheet s v z
+
+-- ---- what a whole sheet gives
+
+module _ (s : List ℕ) (v : Vehicle) (z : Closing) (e : examined s ≡ Whole v z) where
+  w : WholeSheet s v z
+  w = whole s v z e
+
+  pub runs-good : RunsGood s
+  runs-good = record { two = w .two; few = w .size .few; good = λ n l m. w .runs n l (omega arith) }
+
+  pub mass-positive : 0 < v .mass
+  unfolding vehicleIn
+  mass-positive = omega (arith, ap (λ (x : Vehicle). x .mass) (w .vehicle-is), vehicle-ranges (recordAt s 0) (w .vehicle) .mass .0)
+
+  pub length-range : (100 ≤ v .length) × (v .length ≤ 2000)
+  unfolding vehicleIn
+  length-range =
+      let same = ap (λ (x : Vehicle). x .length) (w .vehicle-is) in
+      let r = vehicle-ranges (recordAt s 0) (w .vehicle) .«length» in
+      (omega arith, omega arith)

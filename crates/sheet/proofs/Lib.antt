@@ -1,1 +1,3 @@
 pub mod Examinations
+pub mod Presence
+mod Examples

@@ -1,1 +1,1 @@
-pub mod Examining
+pub mod Sheet

@@ -1,23 +1,21 @@
-// A session's sheet: any byte string examined as one, and the refusals that come before any evaluation.
-use closing::Closing;
-use records::Record;
-use vehicle::Vehicle;
+// A session's sheet: any byte string examined as one (refusals 2 to 5), and the run records of a whole sheet: which gears have acceleration runs.
+// No level and no speed is read here.
+use record::Closing;
+use record::Record;
+use record::Vehicle;
+use refusal::Refusal;
 ghost use mathlib.Core.Path.{_≡_};
-ghost use Prim.Native.Nat.{_<_};
-ghost use Rattle.records.specs.Records.{records};
-ghost use Rattle.sheet.specs.Examining.{lastOf, wrongSize, noVehicle, noClosing, goodAt, lowestBroken, examined};
+ghost use mathlib.Core.Bool.{false};
+ghost use Prim.Native.Nat.{ℕ, _-_, _≤_, _<_};
+ghost use lib.ListN.{getD};
+ghost use Rattle.units.specs.Tests.{lowest};
+ghost use Rattle.record.specs.Records.{records};
+ghost use Rattle.sheet.specs.Sheet.{lastOf, wrongSize, noVehicle, noClosing, goodAt, lowestBroken, examined, RunsGood, hasByte, anyAcceleration, hasAcceleration};
 
-// What an examination finds: a whole sheet, or the first cause of a refusal with its place.
+// What an examination finds: a whole sheet, or the first refusal.
 pub enum Examination {
     Whole(Vehicle, Closing),
-    // refusal 2
-    WrongSize,
-    // refusal 3
-    NoVehicle,
-    // refusal 4, at the last record
-    NoClosing(usize),
-    // refusal 5, at the lowest such record
-    BrokenRecord(usize),
+    Refused(Refusal),
 }
 
 fn wrong_size(sheet: &[u8]) -> bool
@@ -52,12 +50,12 @@ fn good_at(sheet: &[u8], number: usize, last: usize) -> bool
 {
     let r = Record::at(sheet, number);
     if number == 0 {
-        return vehicle::vehicle_good(r);
+        return record::vehicle_good(r);
     }
     if number == last {
-        return closing::closing_good(r);
+        return record::closing_good(r);
     }
-    run_record::run_good(r)
+    record::run_good(r)
 }
 
 fn lowest_broken(sheet: &[u8], count: usize) -> usize
@@ -81,20 +79,64 @@ pub fn examine(sheet: &[u8]) -> Examination
     ensures { λ r. ⌜ r ≡ examined (now (sheet .entry)) ⌝ }
 {
     if wrong_size(sheet) {
-        return Examination::WrongSize;
+        return Examination::Refused(Refusal::WrongSize);
     }
     if no_vehicle(sheet) {
-        return Examination::NoVehicle;
+        return Examination::Refused(Refusal::NoVehicle);
     }
     let count = sheet.len() / Record::SIZE;
     if no_closing(sheet, count) {
-        return Examination::NoClosing(count - 1);
+        return Examination::Refused(Refusal::NoClosing(count - 1));
     }
     let broken = lowest_broken(sheet, count);
     if broken < count {
-        return Examination::BrokenRecord(broken);
+        return Examination::Refused(Refusal::BrokenRecord(broken));
     }
-    let vehicle = vehicle::vehicle_in(Record::at(sheet, 0));
-    let closing = closing::closing_in(Record::at(sheet, count - 1));
+    let vehicle = record::vehicle_in(Record::at(sheet, 0));
+    let closing = record::closing_in(Record::at(sheet, count - 1));
     Examination::Whole(vehicle, closing)
+}
+
+// The first record whose byte `at` is `value`, from record `from` on and before record `last`; else `last`.
+pub fn next_with(sheet: &[u8], at: usize, value: u8, from: usize, last: usize) -> usize
+    requires { ⌜ at < 32 ⌝ }
+    requires { ⌜ (from ≤ last) × (last ≤ records (now sheet)) ⌝ }
+    ensures { λ r. ⌜ r ≡ lowest (hasByte (now (sheet .entry)) at value) (last - from) from ⌝ }
+{
+    let mut n = from;
+    while n < last {
+        if sheet[Record::SIZE * n + at] == value {
+            return n;
+        }
+        n += 1;
+    }
+    n
+}
+
+// Whether a sheet has an acceleration run.
+pub fn any_acceleration(sheet: &[u8]) -> bool
+    requires { ⌜ RunsGood (now sheet) ⌝ }
+    ensures { λ r. ⌜ r ≡ anyAcceleration (now (sheet .entry)) ⌝ }
+{
+    let last = sheet.len() / Record::SIZE - 1;
+    next_with(sheet, 0, Record::ACCELERATION, 1, last) < last
+}
+
+// Which gears have an acceleration run.
+pub fn present(sheet: &[u8]) -> [bool; 17]
+    requires { ⌜ RunsGood (now sheet) ⌝ }
+    ensures { λ r. ⌜ ((g : ℕ) → g ≤ 16 → getD r g false ≡ hasAcceleration (now (sheet .entry)) g) ⌝ }
+{
+    let last = sheet.len() / Record::SIZE - 1;
+    let mut seen = [false; 17];
+    let mut i = 1;
+    while i < last {
+        let r = Record::at(sheet, i);
+        if r[0] == Record::ACCELERATION {
+            let gear = r[1] as usize;
+            seen[gear] = true;
+        }
+        i += 1;
+    }
+    seen
 }

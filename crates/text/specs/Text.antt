@@ -1,7 +1,7 @@
 -- Numbers as text, in ASCII codes: decimal digits, and numbers parted by spaces.
-use Prim.Native.Nat.{ℕ, zero, suc, _+_, _/_, _%_}
 use mathlib.Core.Bool.{cond}
 use mathlib.Core.List.{List, [], _∷_, _++_}
+use Prim.Native.Nat.{ℕ, zero, suc, _+_, _/_, _%_}
 use lib.Dec.{ltb}
 
 -- the decimal digits of n without zeros in front; of a number with more than `most` digits the last `most`

@@ -6,11 +6,11 @@ use native.Mathlib.Numerals.{add-one}
 use lib.ListN.{length, take, set}
 use lib.Seq.{take-suc-set}
 
-module _ {A : Type 0} (xs : List A) (count : ℕ) (rest all : List A) where
+module _ {A : Type 0} (xs : List A) (count : ℕ) (others all : List A) where
   -- one more is stored
-  pub gather : (x : A) → count < length xs → take count xs ++ (x ∷ rest) ≡ all → take (count + 1) (set xs count x) ++ rest ≡ all
+  pub gather : (x : A) → count < length xs → take count xs ++ (x ∷ others) ≡ all → take (count + 1) (set xs count x) ++ others ≡ all
   gather x h e = rw (add-one count, take-suc-set xs count x h, append-assoc) e
 
   -- nothing is to come
-  pub gathered : rest ≡ [] → take count xs ++ rest ≡ all → take count xs ≡ all
+  pub gathered : others ≡ [] → take count xs ++ others ≡ all → take count xs ≡ all
   gathered n e = sym (append-nil (take count xs)) ∙ (rw n at e)

@@ -8,7 +8,7 @@ use native.Mathlib.Numerals.{add-one}
 use native.Mathlib.Omega.{arith}
 use lib.Dec.{T, leb}
 use borrow.Author.Tests.{leb-true, leb-false}
-use Rattle.units.specs.Lowest.{lowest}
+use Rattle.units.specs.Tests.{lowest}
 
 module _ (test : ℕ → Bool) where
   -- ---- one step
@@ -68,20 +68,20 @@ module _ (test : ℕ → Bool) where
   found (suc count) n = by (test n) refl (found count (suc n))
     where
       by : (b : Bool) → test n ≡ b → Lowest count (suc n) (lowest test count (suc n)) → Lowest (suc count) n (lowest test (suc count) n)
-      by true e rest =
+      by true e others =
           rw (lowest-here count n e) (record { least = omega arith; most = omega arith; before = λ k l m. absurd (omega arith); passes = λ h. e })
-      by false e rest =
+      by false e others =
           rw (lowest-next count n e)
           (record {
-            least = omega (arith, rest .least);
-            most = omega (arith, rest .most);
+            least = omega (arith, others .least);
+            most = omega (arith, others .most);
             before = λ k l m. split k (leb k n) refl l m;
-            passes = λ h. rest .passes (omega arith);
+            passes = λ h. others .passes (omega arith);
           })
         where
           split : (k : ℕ) (b : Bool) → leb k n ≡ b → n ≤ k → k < lowest test count (suc n) → test k ≡ false
           split k true f l m = let same : k ≡ n = le-antisymm (leb-true k n f) l in rw same e
-          split k false f l m = rest .before k (leb-false k n f) m
+          split k false f l m = others .before k (leb-false k n f) m
 
   -- it is not past a number that passes
   pub lowest-most : (count n k : ℕ) → n ≤ k → test k ≡ true → lowest test count n ≤ k

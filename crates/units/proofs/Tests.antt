@@ -14,9 +14,9 @@ each (b ∷ tests) t zero = and-l b (allOf tests) t
 each (b ∷ tests) t (suc k) = each tests (and-r b (allOf tests) t) k
 
 -- what a choice by a test gives has a property if each of its two cases has
-pub chosen : {A : Type 0} (P : A → Type 0) (b : Bool) (yes′ no′ : A) → (b ≡ true → P yes′) → (b ≡ false → P no′) → P (cond b yes′ no′)
-chosen P true yes′ no′ p q = p refl
-chosen P false yes′ no′ p q = q refl
+pub by-test : {A : Type 0} (P : A → Type 0) (b : Bool) (yes′ no′ : A) → (b ≡ true → P yes′) → (b ≡ false → P no′) → P (cond b yes′ no′)
+by-test P true yes′ no′ p q = p refl
+by-test P false yes′ no′ p q = q refl
 
 -- ---- tests joined one after the other, as code joins them
 
@@ -29,17 +29,17 @@ chain-is a [] = sym (and-true a)
 chain-is a (b ∷ bs) = chain-is (a && b) bs ∙ and-assoc a b (allOf bs)
 
 -- two lists of tests with the same outcomes
-pub data Alike : List Bool → List Bool → Type 0 where
-  done : Alike [] []
-  also : {a b : Bool} {xs ys : List Bool} → a ≡ b → Alike xs ys → Alike (a ∷ xs) (b ∷ ys)
+pub data SameOutcomes : List Bool → List Bool → Type 0 where
+  done : SameOutcomes [] []
+  also : {a b : Bool} {xs ys : List Bool} → a ≡ b → SameOutcomes xs ys → SameOutcomes (a ∷ xs) (b ∷ ys)
 
-alike : {xs ys : List Bool} → Alike xs ys → allOf xs ≡ allOf ys
-alike done = refl
-alike (also e r) = ap₂ _&&_ e (alike r)
+same-outcomes : {xs ys : List Bool} → SameOutcomes xs ys → allOf xs ≡ allOf ys
+same-outcomes done = refl
+same-outcomes (also e r) = ap₂ _&&_ e (same-outcomes r)
 
 -- Code that has passed the first test of a list and joins the others decides as the list does.
-pub chained : {l a b : Bool} {xs ys : List Bool} → l ≡ true → a ≡ b → Alike xs ys → chain a xs ≡ allOf (l ∷ (b ∷ ys))
-chained {l} {a} {b} {xs} {ys} first e r = chain-is a xs ∙ ap₂ _&&_ e (alike r) ∙ sym (ap (λ (t : Bool). t && (b && allOf ys)) first)
+pub chained : {l a b : Bool} {xs ys : List Bool} → l ≡ true → a ≡ b → SameOutcomes xs ys → chain a xs ≡ allOf (l ∷ (b ∷ ys))
+chained {l} {a} {b} {xs} {ys} first e r = chain-is a xs ∙ ap₂ _&&_ e (same-outcomes r) ∙ sym (ap (λ (t : Bool). t && (b && allOf ys)) first)
 
 -- ---- two tests
 

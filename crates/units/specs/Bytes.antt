@@ -1,6 +1,6 @@
 -- Document 01, "The sheet": numbers are unsigned, low byte first.
-use Prim.Native.Nat.{ℕ, zero, suc, _+_, _*_}
 use mathlib.Core.List.{List}
+use Prim.Native.Nat.{ℕ, zero, suc, _+_, _*_}
 use lib.ListN.{getD}
 
 -- the number in the `width` bytes of s from `at` on, low byte first

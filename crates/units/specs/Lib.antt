@@ -1,4 +1,3 @@
 pub mod Rounding
 pub mod Bytes
-pub mod Lowest
 pub mod Tests

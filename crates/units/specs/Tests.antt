@@ -1,6 +1,22 @@
--- A list of tests.
-use mathlib.Core.Bool.{Bool, true, _&&_}
+-- Tests of numbers, and lists of tests.
+use mathlib.Core.Bool.{Bool, true, false, _&&_, _||_}
 use mathlib.Core.List.{List, [], _∷_}
+use Prim.Native.Nat.{ℕ, zero, suc, _+_}
+
+-- the lowest of the `count` numbers from n on that passes the test, and the number after them where none does
+unfoldable pub lowest : (ℕ → Bool) → ℕ → ℕ → ℕ
+lowest test zero n = n
+lowest test (suc count) n = elim (test n) [ true ↦ n | false ↦ lowest test count (suc n) ]
+
+-- some of the `count` numbers from n on passes the test
+unfoldable pub some : (ℕ → Bool) → ℕ → ℕ → Bool
+some test zero n = false
+some test (suc count) n = test n || some test count (n + 1)
+
+-- one past the last of the first n numbers that passes the test, and 0 where none does
+unfoldable pub pastLast : (ℕ → Bool) → ℕ → ℕ
+pastLast test zero = 0
+pastLast test (suc n) = elim (test n) [ true ↦ suc n | false ↦ pastLast test n ]
 
 -- every test of the list passes
 abbrev pub allOf : List Bool → Bool

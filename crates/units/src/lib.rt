@@ -17,8 +17,12 @@ pub fn round(n: u32, d: u32) -> u32
     ensures { λ r. ⌜ r ≡ rounded n d ⌝ }
 {
     let whole = n / d;
-    let rest = n % d;
-    if rest < d - rest { whole } else { whole + 1 }
+    let remainder = n % d;
+    if remainder < d - remainder {
+        whole
+    } else {
+        whole + 1
+    }
 }
 
 fn wide(x: u8) -> u32

@@ -7,7 +7,7 @@ use lib.Dec.{ltb}
 use borrow.Author.Tests.{le-ltb}
 use Rattle.units.specs.Rounding.{rounded}
 use Rattle.units.proofs.Rounding.{rounded-most}
-use Rattle.units.proofs.Tests.{chosen}
+use Rattle.units.proofs.Tests.{by-test}
 use Rattle.urban.specs.Urban.{partPower}
 
 -- nothing rounds to nothing, whatever it is divided by
@@ -18,7 +18,7 @@ nothing n (suc a) e = let none = rounded-most (100 * n) (suc a) 0 (omega arith) 
 
 pub kp-none : (u a : ℕ) → a ≤ u → partPower u a ≡ 0
 unfolding partPower
-kp-none u a h = chosen (λ x. x ≡ 0) (ltb a u) _ _ (λ e. refl) (λ e. nothing (a - u) a (omega arith))
+kp-none u a h = by-test (λ x. x ≡ 0) (ltb a u) _ _ (λ e. refl) (λ e. nothing (a - u) a (omega arith))
 
 pub kp-some : (u a : ℕ) → u ≤ a → partPower u a ≡ rounded (100 * (a - u)) a
 unfolding partPower
@@ -26,7 +26,7 @@ kp-some u a h = rw (le-ltb a u h)
 
 pub kp-most : (u a : ℕ) → partPower u a ≤ 100
 unfolding partPower
-kp-most u a = chosen (λ x. x ≤ 100) (ltb a u) _ _ (λ e. omega arith) (λ e. most a)
+kp-most u a = by-test (λ x. x ≤ 100) (ltb a u) _ _ (λ e. omega arith) (λ e. most a)
   where
     most : (a : ℕ) → rounded (100 * (a - u)) a ≤ 100
     most zero = omega (arith, nothing (0 - u) 0 (omega arith))

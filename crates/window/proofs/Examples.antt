@@ -4,13 +4,11 @@ use mathlib.Core.List.{List, [], _∷_, map}
 use Prim.Native.Nat.{ℕ}
 use lib.Dec.{T, eqb}
 use Rattle.units.specs.Rounding.{rounded}
-use Rattle.units.specs.Lowest.{lowest}
-use Rattle.units.specs.Tests.{allOf}
-use Rattle.four.specs.declared.ValidRun.{ValidRun}
+use Rattle.units.specs.Tests.{lowest, allOf}
+use Rattle.window.specs.declared.ValidRun.{ValidRun}
 use Rattle.window.specs.declared.Window.{Window}
 use Rattle.window.specs.declared.Window.the-variants.{Runs, Nothing}
-use Rattle.four.specs.Four.{spanned, fitting, largerSum, conditionLevel}
-use Rattle.window.specs.Windows.{noRun, fourAt, firstPlace, firstWindow}
+use Rattle.window.specs.Windows.{spanned, fitting, largerSum, conditionLevel, emptyRun, fourAt, firstPlace, firstWindow}
 
 run : ℕ → ℕ → ℕ → ValidRun
 run n l r = record { left = record { 0 = l }; right = record { 0 = r }; start = 0; end = 0; engine = 0; number = n }
@@ -51,5 +49,5 @@ examples =
     ∷ []
 
 every-holds : T (allOf (map holds examples))
-unfolding run isAt isNone holds examples spanned fitting noRun fourAt firstPlace firstWindow largerSum conditionLevel lowest rounded
+unfolding run isAt isNone holds examples spanned fitting emptyRun fourAt firstPlace firstWindow largerSum conditionLevel lowest rounded
 every-holds = tt

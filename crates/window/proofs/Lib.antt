@@ -1,3 +1,5 @@
 pub mod Searches
 pub mod Parts
 mod Examples
+mod Walking
+pub mod Rising

@@ -9,12 +9,11 @@ use lib.ListN.{length, getD, drop, length-append, length-drop, List·getD-append
 use lib.Seq.{getD-drop, drop-append-le}
 use borrow.Author.Tests.{lt-ltb, le-ltb, ltb-true, ltb-false}
 use Rattle.units.proofs.Lowest.{lowest-is}
-use Rattle.four.specs.declared.ValidRun.{ValidRun}
-use Rattle.four.specs.declared.Four.{Four}
+use Rattle.window.specs.declared.ValidRun.{ValidRun}
+use Rattle.window.specs.declared.Four.{Four}
 use Rattle.window.specs.declared.Window.{Window}
 use Rattle.window.specs.declared.Window.the-variants.{Runs, Nothing}
-use Rattle.four.specs.Four.{fitting}
-use Rattle.window.specs.Windows.{noRun, fourAt, firstPlace, firstWindow}
+use Rattle.window.specs.Windows.{fitting, emptyRun, fourAt, firstPlace, firstWindow}
 use Rattle.window.proofs.Searches.{first-is, none-is}
 
 four : ValidRun → ValidRun → ValidRun → ValidRun → Four
@@ -27,15 +26,15 @@ same-four p q r s = cc
 four-in : (xs ys : List ValidRun) (i : ℕ) → i + 3 < length xs → fourAt (xs ++ ys) i ≡ fourAt xs i
 unfolding fourAt four
 four-in xs ys i h =
-    same-four (List·getD-append xs ys noRun i (omega arith)) (List·getD-append xs ys noRun (i + 1) (omega arith)) (List·getD-append xs ys noRun (i + 2) (omega arith)) (List·getD-append xs ys noRun (i + 3) h)
+    same-four (List·getD-append xs ys emptyRun i (omega arith)) (List·getD-append xs ys emptyRun (i + 1) (omega arith)) (List·getD-append xs ys emptyRun (i + 2) (omega arith)) (List·getD-append xs ys emptyRun (i + 3) h)
 
 -- and of what is left after n runs
 four-after : (ws : List ValidRun) (n i : ℕ) → fourAt (drop n ws) i ≡ fourAt ws (n + i)
 unfolding fourAt four
-four-after ws n i = same-four (getD-drop n ws i noRun) (at 1) (at 2) (at 3)
+four-after ws n i = same-four (getD-drop n ws i emptyRun) (at 1) (at 2) (at 3)
   where
-    at : (k : ℕ) → getD (drop n ws) (i + k) noRun ≡ getD ws (n + i + k) noRun
-    at k = let place : n + (i + k) ≡ n + i + k = omega arith in getD-drop n ws (i + k) noRun ∙ ap (λ (m : ℕ). getD ws m noRun) place
+    at : (k : ℕ) → getD (drop n ws) (i + k) emptyRun ≡ getD ws (n + i + k) emptyRun
+    at k = let place : n + (i + k) ≡ n + i + k = omega arith in getD-drop n ws (i + k) emptyRun ∙ ap (λ (m : ℕ). getD ws m emptyRun) place
 
 module _ (rest : List ValidRun) where
   -- a place that fits, with none before it, is the first window's

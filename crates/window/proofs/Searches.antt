@@ -8,13 +8,12 @@ use lib.ListN.{length}
 use lib.Dec.{ltb}
 use borrow.Author.Tests.{lt-ltb, le-ltb, ltb-true, ltb-false}
 use Rattle.units.proofs.Lowest.{Lowest, found, Passed, passed-start, passed-next, passed-stop, passed-end}
-use Rattle.units.proofs.Tests.{chosen}
-use Rattle.four.specs.declared.ValidRun.{ValidRun}
-use Rattle.four.specs.declared.Four.{Four}
+use Rattle.units.proofs.Tests.{by-test}
+use Rattle.window.specs.declared.ValidRun.{ValidRun}
+use Rattle.window.specs.declared.Four.{Four}
 use Rattle.window.specs.declared.Window.{Window}
 use Rattle.window.specs.declared.Window.the-variants.{Runs, Nothing}
-use Rattle.four.specs.Four.{fitting}
-use Rattle.window.specs.Windows.{fourAt, firstPlace, firstWindow}
+use Rattle.window.specs.Windows.{fitting, fourAt, firstPlace, firstWindow}
 
 module _ (rest : List ValidRun) where
   -- nothing fits before place i
@@ -39,7 +38,7 @@ module _ (rest : List ValidRun) where
 
 -- ---- what is found, for a reader to check: a window, and no earlier one; or nothing, and then there is none
 
-pub record First (rest : List ValidRun) (f : Four) : Type 0 where
+pub record FirstFound (rest : List ValidRun) (f : Four) : Type 0 where
   pub place : ℕ
   pub inside : place + 3 < length rest
   pub is : f ≡ fourAt rest place
@@ -51,10 +50,10 @@ module _ (rest : List ValidRun) where
   unfolding firstPlace
   search = found (λ i. fitting (fourAt rest i)) (length rest - 3) 0
 
-  pub first-is : (f : Four) → firstWindow rest ≡ Runs f → First rest f
+  pub first-is : (f : Four) → firstWindow rest ≡ Runs f → FirstFound rest f
   unfolding firstWindow
   first-is f =
-      chosen (λ (w : Window). w ≡ Runs f → First rest f) (ltb (firstPlace rest) (length rest - 3)) _ _
+      by-test (λ (w : Window). w ≡ Runs f → FirstFound rest f) (ltb (firstPlace rest) (length rest - 3)) _ _
       (λ t e.
       let inside = ltb-true (firstPlace rest) (length rest - 3) t in
       let same : fourAt rest (firstPlace rest) ≡ f = cc in
@@ -70,6 +69,6 @@ module _ (rest : List ValidRun) where
   pub none-is : firstWindow rest ≡ Nothing → (i : ℕ) → i + 3 < length rest → fitting (fourAt rest i) ≡ false
   unfolding firstWindow
   none-is =
-      chosen (λ (w : Window). w ≡ Nothing → (i : ℕ) → i + 3 < length rest → fitting (fourAt rest i) ≡ false) (ltb (firstPlace rest) (length rest - 3)) _ _
+      by-test (λ (w : Window). w ≡ Nothing → (i : ℕ) → i + 3 < length rest → fitting (fourAt rest i) ≡ false) (ltb (firstPlace rest) (length rest - 3)) _ _
       (λ t e. absurd (let z : _≡_ {A = ℕ} 0 1 = cc in omega arith))
       (λ t e i h. search .before i (omega arith) (omega (arith, ltb-false (firstPlace rest) (length rest - 3) t)))

@@ -1,7 +1,146 @@
-// Windows: four neighbours among valid runs that lie close together, and laws of their search. No code.
-use four::Four;
+// Windows: four neighbouring valid runs that lie close together, the level of a condition, and the search for the first window in a lent slice.
+// Neither a sheet nor an acceleration is known here.
+use units::Tenths;
+ghost use mathlib.Core.Path.{_≡_};
+ghost use Prim.Native.Nat.{_+_, _≤_, max, min, _-_, _<_};
+ghost use lib.ListN.{length, take};
+ghost use Rattle.window.specs.Windows.{spanned, fitting, conditionLevel, fourAt, firstWindow};
+
+// A run that counts, with its corrected levels.
+pub struct ValidRun {
+    pub left: Tenths,
+    pub right: Tenths,
+    // tenths of km/h at the start line and at BB'
+    pub start: u16,
+    pub end: u16,
+    // the highest engine speed before BB', per minute
+    pub engine: u16,
+    // its record
+    pub number: u16,
+}
+
+// What an array of runs holds where no run has been stored.
+pub const EMPTY_RUN: ValidRun = ValidRun {
+    left: Tenths(0),
+    right: Tenths(0),
+    start: 0,
+    end: 0,
+    engine: 0,
+    number: 0,
+};
+
+// Four neighbours among the runs that count.
+pub struct Four {
+    pub a: ValidRun,
+    pub b: ValidRun,
+    pub c: ValidRun,
+    pub d: ValidRun,
+}
+
+// What an array of windows holds where none has been stored.
+pub const EMPTY_FOUR: Four = Four {
+    a: EMPTY_RUN,
+    b: EMPTY_RUN,
+    c: EMPTY_RUN,
+    d: EMPTY_RUN,
+};
+
+fn least(a: u16, b: u16) -> u16
+    ensures { λ r. ⌜ r ≡ min a b ⌝ }
+{
+    if a < b { a } else { b }
+}
+
+fn most(a: u16, b: u16) -> u16
+    ensures { λ r. ⌜ r ≡ max a b ⌝ }
+{
+    if a < b { b } else { a }
+}
+
+// Whether four levels span at most 2.0 dB.
+pub fn spans(a: u16, b: u16, c: u16, d: u16) -> bool
+    ensures { λ r. ⌜ r ≡ spanned a b c d ⌝ }
+{
+    let high = most(most(a, b), most(c, d));
+    let low = least(least(a, b), least(c, d));
+    let limit = low as u32 + 20;
+    (high as u32) <= limit
+}
+
+// The four-value test: both sides of four runs.
+pub fn fits(f: Four) -> bool
+    ensures { λ r. ⌜ r ≡ fitting f ⌝ }
+{
+    spans(f.a.left.0, f.b.left.0, f.c.left.0, f.d.left.0)
+        & spans(f.a.right.0, f.b.right.0, f.c.right.0, f.d.right.0)
+}
+
+fn sum(a: u16, b: u16, c: u16, d: u16) -> u32
+    ensures { λ r. ⌜ (r ≡ a + b + c + d) × (r ≤ 262140) ⌝ }
+{
+    a as u32 + b as u32 + c as u32 + d as u32
+}
+
+fn larger(a: u32, b: u32) -> u32
+    ensures { λ r. ⌜ r ≡ max a b ⌝ }
+{
+    if a < b { b } else { a }
+}
+
+// The level of a condition: the larger of the two sides' means, rounded to a tenth.
+pub fn condition_level(f: Four) -> Tenths
+    ensures { λ r. ⌜ r .0 ≡ conditionLevel f ⌝ }
+{
+    let left = sum(f.a.left.0, f.b.left.0, f.c.left.0, f.d.left.0);
+    let right = sum(f.a.right.0, f.b.right.0, f.c.right.0, f.d.right.0);
+    Tenths(units::round(larger(left, right), 4) as u16)
+}
 
 pub enum Window {
     Runs(Four),
     Nothing,
+}
+
+// How many places `count` runs have for four neighbours.
+fn places(count: usize) -> usize
+    ensures { λ r. ⌜ r ≡ count - 3 ⌝ }
+{
+    if count < 3 { 0 } else { count - 3 }
+}
+
+// Four neighbours, from place i on.
+fn four_at(runs: &[ValidRun], i: usize) -> Four
+    requires { ⌜ i + 3 < length (now runs) ⌝ }
+    ensures { λ r. ⌜ r ≡ fourAt (now (runs .entry)) i ⌝ }
+{
+    Four {
+        a: runs[i],
+        b: runs[i + 1],
+        c: runs[i + 2],
+        d: runs[i + 3],
+    }
+}
+
+// The first window among lent runs.
+fn first_window(runs: &[ValidRun]) -> Window
+    ensures { λ r. ⌜ r ≡ firstWindow (now (runs .entry)) ⌝ }
+{
+    let end = places(runs.len());
+    let mut i: usize = 0;
+    while i < end {
+        let f = four_at(runs, i);
+        if fits(f) {
+            return Window::Runs(f);
+        }
+        i += 1;
+    }
+    Window::Nothing
+}
+
+// The first window among the first `count` of `runs`, which are lent to the search. The one entry to it: its parameters are plain values.
+pub fn window_among(runs: [ValidRun; 16], count: usize) -> Window
+    requires { ⌜ count ≤ 16 ⌝ }
+    ensures { λ r. ⌜ r ≡ firstWindow (take count runs) ⌝ }
+{
+    first_window(&runs[..count])
 }

@@ -1,8 +1,8 @@
 -- `corpus::print_line` is safe: the line lies within the buffer that it is laid out on. Assumes nothing.
-use borrow.Author.Needs.{needs}
 use mathlib.Core.Path.{sym}
 use native.Mathlib.Omega.{arith}
 use lib.Seq.{length-take-le}
+use borrow.Author.Needs.{needs}
 use Rattle.corpus.proofs.print_line.Statement.{statement}
 use Rattle.corpus.proofs.print_line.Tie as tie
 

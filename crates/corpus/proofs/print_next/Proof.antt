@@ -1,9 +1,9 @@
 -- `corpus::print_next` is safe: a length that is not above LONGEST lies within the buffer, before and after the reading. Assumes nothing.
-use borrow.Author.Needs.{needs}
 use mathlib.Core.Path.{sym}
 use native.Mathlib.Omega.{arith}
 use lib.ListN.{length-append}
 use lib.Seq.{length-take-le}
+use borrow.Author.Needs.{needs}
 use Rattle.corpus.proofs.print_next.Statement.{statement}
 use Rattle.corpus.proofs.print_next.Tie as tie
 

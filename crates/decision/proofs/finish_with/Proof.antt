@@ -1,30 +1,43 @@
 -- `decision::finish_with` meets its contract. Assumes nothing.
-use borrow.Author.Needs.{needs}
 use mathlib.Core.Path.{sym, ap, subst, _∙_}
+use borrow.Author.Needs.{needs}
+use Rattle.urban.specs.declared.Basis.{Basis}
+use Rattle.urban.specs.Urban.{outcomeOf}
 use Rattle.decision.specs.declared.Decision.the-variants.{Result}
-use Rattle.selection.specs.Sound.{Weighable}
-use Rattle.decision.specs.Decision.{finishBy}
+use Rattle.decision.specs.Decision.{Straddling, finishBy}
 use Rattle.decision.proofs.finish_with.Statement.{statement}
 use Rattle.decision.proofs.finish_with.Tie as tie
 
 enum-known-selection : tie.Need-enum-known-selection
 enum-known-selection c = search needs
 
+basis-of-requires : tie.Need-basis-of-requires
+basis-of-requires c κs = let s = c .before .before .before in subst (Straddling (s .args .reference)) (c .before .selection .given .1) (s .pre)
+
+outcome-of-requires : tie.Need-outcome-of-requires
+outcome-of-requires c κs = search needs
+
 enum-known-selection-2 : tie.Need-enum-known-selection-2
 enum-known-selection-2 c = search needs
 
-outcome-of-requires : tie.Need-outcome-of-requires
-outcome-of-requires c κs = subst (Weighable (c .before .before .before .args .reference)) (c .before .selection2 .given .1) (c .before .before .before .pre)
-
 returns : tie.Need-returns
 unfolding finishBy
-returns c = sym (ap (finishBy (c .before .before .before .args .reference) (c .before .before .before .args .limit)) (c .before .selection .given .1))
+returns c =
+    let s = c .before .before .before .before .before in
+    ap Result (c .outcome-of .ensures ∙ ap (λ (b : Basis). outcomeOf (s .args .reference) (s .args .limit) b) (c .before .basis-of .ensures))
+    ∙ sym (ap (finishBy (s .args .reference) (s .args .limit)) (c .before .before .before .selection .given .1))
 
 returns-2 : tie.Need-returns-2
 unfolding finishBy
-returns-2 c = ap Result (c .outcome-of .ensures) ∙ sym (ap (finishBy (c .before .before .before .before .args .reference) (c .before .before .before .before .args .limit)) (c .before .before .selection2 .given .1))
+returns-2 c = let s = c .before .before .before in sym (ap (finishBy (s .args .reference) (s .args .limit)) (c .before .selection2 .given .1))
 
 pub finish-with-spec : {M : Type 1} → statement M
 finish-with-spec =
     tie.close
-    (tie.spec enum-known-selection enum-known-selection-2 outcome-of-requires returns returns-2)
+    (tie.spec
+    enum-known-selection
+    basis-of-requires
+    outcome-of-requires
+    enum-known-selection-2
+    returns
+    returns-2)

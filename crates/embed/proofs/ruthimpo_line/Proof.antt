@@ -1,6 +1,6 @@
 -- `embed::ruthimpo_line` meets its contract: it lays out the answer and the buffer that `evaluate` gives. Assumes nothing.
-use borrow.Author.Needs.{needs}
 use mathlib.Core.Path.{ap, _∙_}
+use borrow.Author.Needs.{needs}
 use borrow.Author.Tests.{lt-ltb, le-ltb}
 use Rattle.refusal.specs.declared.Answer.{Answer}
 use Rattle.line.specs.Line.{lineOf}

@@ -1,8 +1,8 @@
 -- `evaluate::main` is safe: the line lies within the buffer that it is laid out on. Assumes nothing.
-use borrow.Author.Needs.{needs}
 use mathlib.Core.Path.{sym}
 use native.Mathlib.Omega.{arith}
 use lib.Seq.{length-take-le}
+use borrow.Author.Needs.{needs}
 use Rattle.evaluate.proofs.main.Statement.{statement}
 use Rattle.evaluate.proofs.main.Tie as tie
 

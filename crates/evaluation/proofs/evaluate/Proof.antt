@@ -1,18 +1,18 @@
 -- `evaluation::evaluate` meets its contract. Assumes nothing.
-use borrow.Author.Needs.{needs}
 use mathlib.Core.Path.{sym, _∙_, _≡_, ap, subst}
-use borrow.Author.Tests.{lt-ltb, le-ltb}
 use mathlib.Core.List.{List}
 use Prim.Native.Nat.{ℕ}
 use native.Mathlib.Omega.{arith}
-use Rattle.promises.specs.Answer.{answerBy, answerOf, bufferBy, bufferOf}
+use borrow.Author.Needs.{needs}
+use borrow.Author.Tests.{lt-ltb, le-ltb}
 use Rattle.units.specs.Bytes.{number}
-use Rattle.result.proofs.Results.{at-ten}
 use Rattle.refusal.specs.declared.Refusal.{Refusal}
 use Rattle.refusal.specs.declared.Answer.the-variants.{Accepted, Refused}
-use Rattle.promises.specs.Demand.{CloseTo, RisesFrom}
-use Rattle.promises.proofs.Accepted.{close-to}
-use Rattle.promises.proofs.Rising.{rises-from}
+use Rattle.result.proofs.Results.{at-ten}
+use Rattle.evaluation.specs.Answer.{answerBy, answerOf, bufferBy, bufferOf}
+use Rattle.evaluation.specs.Demand.{CloseTo, RisesFrom}
+use Rattle.evaluation.proofs.Close.{close-to}
+use Rattle.evaluation.proofs.Rising.{rises-from}
 use Rattle.evaluation.proofs.evaluate.Statement.{statement}
 use Rattle.evaluation.proofs.evaluate.Tie as tie
 

@@ -1,18 +1,18 @@
 -- `gears::first_not_falling` meets its contract: the neighbours passed fall. Assumes nothing.
-use borrow.Author.Needs.{needs}
 use mathlib.Core.Path.{_≡_, sym, ap, ap₂, _∙_}
-use native.Mathlib.Omega.{arith}
 use mathlib.Core.Bool.{Bool}
 use mathlib.Core.List.{List}
 use Prim.Native.Nat.{ℕ, _+_, _-_, _≤_, _<_}
+use native.Mathlib.Omega.{arith}
 use lib.Dec.{leb}
 use lib.ListN.{length, take}
+use borrow.Author.Needs.{needs}
 use borrow.Author.Tests.{le-leb, lt-leb}
-use Rattle.gears.specs.declared.Gear.{Gear}
-use Rattle.gears.proofs.Places.{counted, read, a-taken}
-use Rattle.units.specs.Lowest.{lowest}
+use Rattle.units.specs.Tests.{lowest}
 use Rattle.units.proofs.Lowest.{Passed, passed-start, passed-next, passed-stop, passed-end}
-use Rattle.gears.specs.Remaining.{a, firstNotFalling}
+use Rattle.gears.specs.declared.Gear.{Gear}
+use Rattle.gears.specs.Rules.{a, firstNotFalling}
+use Rattle.gears.proofs.Places.{counted, read, a-taken}
 use Rattle.gears.proofs.first_not_falling.Statement.{statement}
 use Rattle.gears.proofs.first_not_falling.Tie as tie
 

@@ -1,8 +1,8 @@
 -- `level::tenths` meets its contract: 2^19 times the level is a whole number, whose tenths are the level's (`Scaled`).
 -- Assumes nothing.
-use borrow.Author.Needs.{needs}
 use mathlib.Core.Path.{_≡_, _∙_}
 use native.Mathlib.Omega.{arith}
+use borrow.Author.Needs.{needs}
 use Rattle.level.specs.Level.{tenthsOf}
 use Rattle.level.proofs.Scaled.{Scaled, scaled}
 use Rattle.level.proofs.Rising.{tenths-range}
@@ -19,7 +19,7 @@ float-to-float-n : tie.Need-float-to-float-n
 float-to-float-n c = let n = facts c .number in search needs
 
 float-to-int-n : tie.Need-float-to-int-n
-float-to-int-n c = facts (c .before) .fitting
+float-to-int-n c = facts (c .before) .fits
 
 mul-round : tie.Need-mul-round
 mul-round c = omega (arith, facts (c .before) .small)

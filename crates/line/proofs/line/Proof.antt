@@ -1,7 +1,7 @@
 -- `line::line` meets its contract. Assumes nothing.
-use borrow.Author.Needs.{needs}
 use mathlib.Core.Path.{_∙_}
 use native.Mathlib.Omega.{arith}
+use borrow.Author.Needs.{needs}
 use Rattle.line.specs.Line.{acceptedWord, refusedWord, lineOf}
 use Rattle.line.proofs.line.Statement.{statement}
 use Rattle.line.proofs.line.Tie as tie
@@ -12,8 +12,8 @@ enum-told c = search needs
 slice-aggregate-put-line : tie.Need-slice-aggregate-put-line
 slice-aggregate-put-line c = search needs
 
-numbers-of-requires : tie.Need-numbers-of-requires
-numbers-of-requires c κs = search needs
+fields-of-requires : tie.Need-fields-of-requires
+fields-of-requires c κs = search needs
 
 slice-aggregate-put-line-2 : tie.Need-slice-aggregate-put-line-2
 slice-aggregate-put-line-2 c = search needs
@@ -49,7 +49,7 @@ returns : tie.Need-returns
 unfolding lineOf acceptedWord
 returns c = (
   omega arith,
-  c .before .before .put-line .ensures .1 ∙ rw (c .before .before .before .before .before .before .before .enum-told .given .1, c .before .before .before .before .before .numbers-of .ensures),
+  c .before .before .put-line .ensures .1 ∙ rw (c .before .before .before .before .before .before .before .enum-told .given .1, c .before .before .before .before .before .fields-of .ensures),
 )
 
 same-length-2 : tie.Need-same-length-2
@@ -68,7 +68,7 @@ line-spec =
     (tie.spec
     enum-told
     slice-aggregate-put-line
-    numbers-of-requires
+    fields-of-requires
     slice-aggregate-put-line-2
     put-line-requires
     enum-known-answer

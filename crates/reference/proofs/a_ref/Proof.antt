@@ -1,8 +1,8 @@
 -- `reference::a_ref` meets its contract: below 25.0 it is a_urban, and from there the second table is read as the first is.
 -- Assumes nothing.
-use borrow.Author.Needs.{needs}
 use mathlib.Core.Path.{refl}
 use native.Mathlib.Omega.{arith}
+use borrow.Author.Needs.{needs}
 use borrow.Author.Tests.{lt-ltb, le-ltb}
 use Rattle.reference.specs.Reference.{aRef}
 use Rattle.reference.proofs.Powers.{start, placed-lowest}

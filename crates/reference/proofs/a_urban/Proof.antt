@@ -1,8 +1,8 @@
 -- `reference::a_urban` meets its contract: the test over the table is computed, and the place of q says which N is its own.
 -- Assumes nothing.
-use borrow.Author.Needs.{needs}
 use mathlib.Core.Path.{refl}
 use native.Mathlib.Omega.{arith}
+use borrow.Author.Needs.{needs}
 use Rattle.reference.specs.Reference.{aUrban}
 use Rattle.reference.proofs.Powers.{start, placed-lowest}
 use Rattle.reference.proofs.a_urban.Statement.{statement}

@@ -1,5 +1,4 @@
 -- `result::write` meets its contract: after n turns the first n bytes are copied and the others stand as they did. Assumes nothing.
-use borrow.Author.Needs.{needs}
 use mathlib.Core.Path.{_≡_, refl, ap, _∙_}
 use Prim.Native.Nat.{_≤_, _-_}
 use native.Mathlib.Nat.{zero-add}
@@ -7,6 +6,7 @@ use native.Mathlib.Numerals.{add-one}
 use native.Mathlib.Omega.{arith}
 use lib.ListN.{length}
 use lib.Seq.{take-all, paste, paste-suc, length-paste}
+use borrow.Author.Needs.{needs}
 use Rattle.result.proofs.Results.{result-long}
 use Rattle.result.proofs.write.Statement.{statement}
 use Rattle.result.proofs.write.Tie as tie

@@ -1,27 +1,27 @@
--- `session::table_of` meets its contract: the entries of the places passed are in the table, and no gear passed lacks a window.
+-- `session::table_of` meets its contract: the entries of the places passed are in the table, and each gear passed has a window.
 -- Assumes nothing.
-use borrow.Author.Needs.{needs}
 use mathlib.Core.Path.{_≡_, refl, sym, ap, _∙_}
-use native.Mathlib.Omega.{arith}
 use mathlib.Core.Bool.{Bool, false}
 use mathlib.Core.List.{List}
 use mathlib.Core.Logic.{⊎-elim}
 use Prim.Native.Nat.{ℕ, _+_, _-_, _≤_, _<_}
+use native.Mathlib.Omega.{arith}
 use lib.ListN.{length, set, length-set}
+use borrow.Author.Needs.{needs}
 use Rattle.units.proofs.Lowest.{Passed, passed-start, passed-next, passed-stop, passed-end}
-use Rattle.four.specs.declared.Four.{Four}
+use Rattle.window.specs.declared.Four.{Four}
 use Rattle.gears.specs.declared.Gear.{Gear}
-use Rattle.state.specs.State.{Track, trackOf, stateOf}
-use Rattle.session.specs.Table.{Entry, lacking, ahead, lowestLacking, gearsOf, windowsOf}
+use Rattle.gears.proofs.Places.{counted}
+use Rattle.session.specs.declared.State.{State}
+use Rattle.session.specs.declared.State.the-variants.{Remains, Dropped, NoRun}
+use Rattle.session.specs.Session.{Session, sessionOf, stateOf, Entry, hasNoWindow, withRemaining, lowestNoWindow, gearsOf, windowsOf}
 use Rattle.session.proofs.Tables.{Tabling, tabling-start, tabling-remains, tabling-other, tabling-all}
-use Rattle.state.specs.declared.State.{State}
-use Rattle.state.specs.declared.State.the-variants.{Remains, Dropped, NoRun}
 use Rattle.session.proofs.table_of.Statement.{statement}
 use Rattle.session.proofs.table_of.Tie as tie
 
--- a gear lacks a window
-abbrev lacks : Track → ℕ → Bool
-lacks t p = lacking (stateOf t (p + 1))
+-- a gear has no window
+abbrev missing : Session → ℕ → Bool
+missing t p = hasNoWindow (stateOf t (p + 1))
 
 abbrev gear-of : Entry → Gear
 gear-of e = e .gear
@@ -30,18 +30,18 @@ abbrev window-of : Entry → Four
 window-of e = e .window
 
 -- the table so far, before place p
-record Ready (t : Track) (gears : List Gear) (windows : List Four) (count p : ℕ) : Type 0 where
+record Ready (t : Session) (gears : List Gear) (windows : List Four) (count p : ℕ) : Type 0 where
   gears-long : length gears ≡ 16
   windows-long : length windows ≡ 16
   few : count ≤ p
   all : p ≤ 16
-  none : Passed (lacks t) 16 p
+  none : Passed (missing t) 16 p
   gears-so-far : Tabling t gear-of gears count p
   windows-so-far : Tabling t window-of windows count p
 
 -- one place more
 
-module _ (t : Track) (gears : List Gear) (windows : List Four) (count p : ℕ) where
+module _ (t : Session) (gears : List Gear) (windows : List Four) (count p : ℕ) where
   ready-remains : (g : Gear) (f : Four) → p < 16 → stateOf t (p + 1) ≡ Remains g f → Ready t gears windows count p → Ready t (set gears count g) (set windows count f) (count + 1) (p + 1)
   ready-remains g f h e r =
       record {
@@ -49,28 +49,28 @@ module _ (t : Track) (gears : List Gear) (windows : List Four) (count p : ℕ) w
         windows-long = length-set windows count f ∙ r .windows-long;
         few = omega (arith, r .few);
         all = omega arith;
-        none = passed-next _ _ _ h (ap lacking e) (r .none);
+        none = passed-next _ _ _ h (ap hasNoWindow e) (r .none);
         gears-so-far = tabling-remains t gear-of gears count p g f h (omega (arith, r .few, r .gears-long)) e (r .gears-so-far);
         windows-so-far = tabling-remains t window-of windows count p g f h (omega (arith, r .few, r .windows-long)) e (r .windows-so-far);
       }
 
-  ready-other : (x : State) → lacking x ≡ false → ((rest : List Entry) → ahead x rest ≡ rest) → p < 16 → stateOf t (p + 1) ≡ x → Ready t gears windows count p → Ready t gears windows count (p + 1)
+  ready-other : (x : State) → hasNoWindow x ≡ false → ((entries : List Entry) → withRemaining x entries ≡ entries) → p < 16 → stateOf t (p + 1) ≡ x → Ready t gears windows count p → Ready t gears windows count (p + 1)
   ready-other x fine keeps h e r =
       record {
         gears-long = r .gears-long;
         windows-long = r .windows-long;
         few = omega (arith, r .few);
         all = omega arith;
-        none = passed-next _ _ _ h (ap lacking e ∙ fine) (r .none);
+        none = passed-next _ _ _ h (ap hasNoWindow e ∙ fine) (r .none);
         gears-so-far = tabling-other t gear-of x keeps gears count p h e (r .gears-so-far);
         windows-so-far = tabling-other t window-of x keeps windows count p h e (r .windows-so-far);
       }
 
 abbrev Inv-loop : tie.InvT-loop
-Inv-loop sheet background rated path seen gears₀ windows₀ count₀ p₀ gears windows count p = Ready (trackOf sheet (background .0) rated path) gears windows count p
+Inv-loop sheet track seen gears₀ windows₀ count₀ p₀ gears windows count p = Ready (sessionOf sheet track) gears windows count p
 
 abbrev μ-loop : tie.MeasureT-loop
-μ-loop sheet background rated path seen gears₀ windows₀ count₀ p₀ gears windows count p = 16 - p
+μ-loop sheet track seen gears₀ windows₀ count₀ p₀ gears windows count p = 16 - p
 
 present-requires : tie.Need-present-requires Inv-loop μ-loop
 present-requires c κs = search needs
@@ -117,11 +117,11 @@ enum-told : tie.Need-enum-told Inv-loop μ-loop
 enum-told c = search needs
 
 returns : tie.Need-returns Inv-loop μ-loop
-unfolding lowestLacking
+unfolding lowestNoWindow
 returns c =
     let l = c .before .before .before .before .loop in
-    let here = passed-stop _ _ _ (c .before .before .before .loop-test .taken) (ap lacking (sym (c .before .before .state-of .ensures) ∙ c .enum-told .given .1)) (l .inv .none) in
-    record { lacks = sym here; few = omega arith; gears = λ e. absurd (omega arith); windows = λ e. absurd (omega arith) }
+    let here = passed-stop _ _ _ (c .before .before .before .loop-test .taken) (ap hasNoWindow (sym (c .before .before .state-of .ensures) ∙ c .enum-told .given .1)) (l .inv .none) in
+    record { no-window = sym here; few = omega arith; counted = counted (l .gears) (l .count) (l .inv .gears-long) (omega arith); gears = λ e. absurd (omega arith); windows = λ e. absurd (omega arith) }
 
 enum-told-2 : tie.Need-enum-told-2 Inv-loop μ-loop
 enum-told-2 c = search needs
@@ -144,20 +144,21 @@ loop-again c =
     (λ w. rw (w .3, w .4, w .5) (ready-remains _ _ _ _ _ (w .1 .given .0 .0) (w .1 .given .0 .1 .0) inside (state ∙ w .1 .given .1) (l .inv)))
     (λ v.
     ⊎-elim
-    (λ w. rw (w .2, w .3, w .4) (ready-other _ _ _ _ _ Dropped refl (λ rest. refl) inside (state ∙ w .1 .given .1) (l .inv)))
-    (λ w. rw (w .2, w .3, w .4) (ready-other _ _ _ _ _ NoRun refl (λ rest. refl) inside (state ∙ w .1 .given .1) (l .inv)))
+    (λ w. rw (w .2, w .3, w .4) (ready-other _ _ _ _ _ Dropped refl (λ entries. refl) inside (state ∙ w .1 .given .1) (l .inv)))
+    (λ w. rw (w .2, w .3, w .4) (ready-other _ _ _ _ _ NoRun refl (λ entries. refl) inside (state ∙ w .1 .given .1) (l .inv)))
     v)
     (c .match .came)
 
 returns-2 : tie.Need-returns-2 Inv-loop μ-loop
-unfolding lowestLacking gearsOf windowsOf
+unfolding lowestNoWindow gearsOf windowsOf
 returns-2 c =
     let l = c .before .loop in
     let r = l .inv in
     let end = passed-end _ _ _ (c .loop-test .left) (r .none) in
     record {
-      lacks = sym end;
+      no-window = sym end;
       few = omega (arith, r .few, r .all);
+      counted = counted (l .gears) (l .count) (r .gears-long) (omega (arith, r .few, r .all));
       gears = λ e. tabling-all _ gear-of (l .gears) (l .count) (l .p) (c .loop-test .left) (r .gears-so-far);
       windows = λ e. tabling-all _ window-of (l .windows) (l .count) (l .p) (c .loop-test .left) (r .windows-so-far);
     }

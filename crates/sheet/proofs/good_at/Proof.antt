@@ -1,9 +1,7 @@
 -- `sheet::good_at` meets its contract, place by place. Assumes nothing.
-use borrow.Author.Needs.{needs}
 use mathlib.Core.Path.{sym, ap, _∙_}
-use Rattle.vehicle.specs.Vehicle.{vehicleGood}
-use Rattle.closing.specs.Closing.{closingGood}
-use Rattle.run_record.specs.Layout.{runGood}
+use borrow.Author.Needs.{needs}
+use Rattle.record.specs.Records.{vehicleGood, runGood, closingGood}
 use Rattle.sheet.proofs.Examinations.{first-place, last-place, middle-place}
 use Rattle.sheet.proofs.good_at.Statement.{statement}
 use Rattle.sheet.proofs.good_at.Tie as tie

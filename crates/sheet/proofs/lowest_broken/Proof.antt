@@ -1,13 +1,13 @@
 -- `sheet::lowest_broken` meets its contract. The records passed are good, so what is left decides. Assumes nothing.
 use mathlib.Core.Path.{_≡_, sym, ap, _∙_}
-use native.Mathlib.Omega.{arith}
 use mathlib.Core.Bool.{Bool, not}
 use mathlib.Core.List.{List}
 use Prim.Native.Nat.{ℕ, _-_}
-use Rattle.units.specs.Lowest.{lowest}
+use native.Mathlib.Omega.{arith}
+use Rattle.units.specs.Tests.{lowest}
 use Rattle.units.proofs.Lowest.{Passed, passed-start, passed-next, passed-stop, passed-end}
-use Rattle.sheet.specs.Examining.{goodAt, lowestBroken}
-use Rattle.records.specs.Records.{records}
+use Rattle.record.specs.Records.{records}
+use Rattle.sheet.specs.Sheet.{goodAt, lowestBroken}
 use Rattle.sheet.proofs.lowest_broken.Statement.{statement}
 use Rattle.sheet.proofs.lowest_broken.Tie as tie
 

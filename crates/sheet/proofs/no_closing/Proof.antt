@@ -1,12 +1,12 @@
 -- `sheet::no_closing` meets its contract. Assumes nothing.
-use borrow.Author.Needs.{needs}
 use mathlib.Core.Path.{_≡_, ap, _∙_}
-use native.Mathlib.Omega.{arith}
 use Prim.Native.Nat.{ℕ, _-_}
+use native.Mathlib.Omega.{arith}
 use lib.ListN.{length}
-use Rattle.records.specs.Records.{recordAt}
-use Rattle.sheet.specs.Examining.{lastOf, noClosing}
-use Rattle.records.proofs.Shown.{record-long}
+use borrow.Author.Needs.{needs}
+use Rattle.record.specs.Records.{recordAt}
+use Rattle.record.proofs.Shown.{record-long}
+use Rattle.sheet.specs.Sheet.{lastOf, noClosing}
 use Rattle.sheet.proofs.no_closing.Statement.{statement}
 use Rattle.sheet.proofs.no_closing.Tie as tie
 

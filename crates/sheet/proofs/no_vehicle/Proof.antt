@@ -1,10 +1,10 @@
 -- `sheet::no_vehicle` meets its contract. Assumes nothing.
-use borrow.Author.Needs.{needs}
 use mathlib.Core.Path.{ap}
 use native.Mathlib.Omega.{arith}
 use lib.ListN.{length}
-use Rattle.sheet.specs.Examining.{noVehicle}
-use Rattle.records.proofs.Shown.{record-long}
+use borrow.Author.Needs.{needs}
+use Rattle.record.proofs.Shown.{record-long}
+use Rattle.sheet.specs.Sheet.{noVehicle}
 use Rattle.sheet.proofs.no_vehicle.Statement.{statement}
 use Rattle.sheet.proofs.no_vehicle.Tie as tie
 

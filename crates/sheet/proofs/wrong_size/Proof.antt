@@ -1,7 +1,7 @@
 -- `sheet::wrong_size` meets its contract. Assumes nothing.
-use borrow.Author.Needs.{needs}
 use mathlib.Core.Path.{refl}
-use Rattle.sheet.specs.Examining.{wrongSize}
+use borrow.Author.Needs.{needs}
+use Rattle.sheet.specs.Sheet.{wrongSize}
 use Rattle.sheet.proofs.wrong_size.Statement.{statement}
 use Rattle.sheet.proofs.wrong_size.Tie as tie
 

@@ -1,10 +1,10 @@
 -- `text::put_line` meets its contract: what stands before `end`, with the numbers still to come, is the whole. Assumes nothing.
-use borrow.Author.Needs.{needs}
 use mathlib.Core.Path.{_≡_, ap, _∙_}
 use mathlib.Core.List.{List, [], _∷_, _++_}
 use Prim.Native.Nat.{ℕ, _≤_, _+_, _-_, _*_}
 use native.Mathlib.Omega.{arith}
 use lib.ListN.{length, take, drop}
+use borrow.Author.Needs.{needs}
 use Rattle.text.specs.Text.{spaced}
 use Rattle.text.proofs.Digits.{one-more, no-more}
 use Rattle.text.proofs.put_line.Statement.{statement}

@@ -1,6 +1,6 @@
 -- `units::number16` meets its contract: the sum of the bytes is what `number` adds up. Assumes nothing.
-use borrow.Author.Needs.{needs}
 use native.Mathlib.Omega.{arith}
+use borrow.Author.Needs.{needs}
 use Rattle.units.specs.Bytes.{number}
 use Rattle.units.proofs.number16.Statement.{statement}
 use Rattle.units.proofs.number16.Tie as tie

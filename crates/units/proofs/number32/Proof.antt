@@ -1,7 +1,7 @@
 -- `units::number32` meets its contract: the sum of the bytes is what `number` adds up. Assumes nothing.
-use borrow.Author.Needs.{needs}
 use native.Mathlib.Omega.{arith}
 use native.Mathlib.Nat.{add-assoc}
+use borrow.Author.Needs.{needs}
 use Rattle.units.specs.Bytes.{number}
 use Rattle.units.proofs.number32.Statement.{statement}
 use Rattle.units.proofs.number32.Tie as tie

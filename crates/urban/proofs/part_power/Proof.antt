@@ -1,7 +1,7 @@
 -- `urban::part_power` meets its contract. Assumes nothing.
-use borrow.Author.Needs.{needs}
 use mathlib.Core.Path.{_≡_, sym, _∙_}
 use native.Mathlib.Omega.{arith}
+use borrow.Author.Needs.{needs}
 use Rattle.urban.specs.Urban.{partPower}
 use Rattle.urban.proofs.PartPower.{kp-none, kp-some, kp-most}
 use Rattle.urban.proofs.part_power.Statement.{statement}

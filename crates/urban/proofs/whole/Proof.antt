@@ -1,6 +1,6 @@
 -- `urban::whole` meets its contract. Assumes nothing.
-use borrow.Author.Needs.{needs}
 use native.Mathlib.Omega.{arith}
+use borrow.Author.Needs.{needs}
 use Rattle.units.proofs.Rounding.{rounded-most}
 use Rattle.urban.proofs.whole.Statement.{statement}
 use Rattle.urban.proofs.whole.Tie as tie

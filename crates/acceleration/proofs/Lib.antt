@@ -1,2 +1,0 @@
-pub mod Accelerations
-mod Examples

@@ -1,0 +1,95 @@
+-- What a sheet that decides on a result is: whole, with PMR in range and chosen gears of which the result tells. Assumes nothing.
+use mathlib.Core.Path.{_≡_, refl, sym, ap, ap₂, subst, _∙_}
+use mathlib.Core.Bool.{not}
+use mathlib.Core.List.{List}
+use Prim.Native.Nat.{ℕ, _-_, _≤_}
+use native.Mathlib.Omega.{arith}
+use lib.Dec.{ltb}
+use lib.ListN.{length}
+use borrow.Author.Tests.{ltb-false}
+use Rattle.units.proofs.Tests.{by-test, neither}
+use Rattle.sheet.specs.declared.Examination.{Examination}
+use Rattle.sheet.specs.declared.Examination.the-variants as examination
+use Rattle.sheet.specs.Sheet.{examined, anyAcceleration}
+use Rattle.sheet.proofs.Examinations.{WholeSheet, whole}
+use Rattle.reference.specs.declared.Reference.{Reference}
+use Rattle.gears.specs.Rules.{firstNotFalling}
+use Rattle.gears.proofs.Choices.{Selectable, sound}
+use Rattle.session.specs.Session.{lowestNoWindow, gearsOf, windowsOf}
+use Rattle.urban.specs.declared.Chosen.{Chosen}
+use Rattle.urban.specs.declared.Outcome.{Outcome}
+use Rattle.urban.specs.Urban.{Straddled, basisOf, outcomeOf}
+use Rattle.decision.specs.declared.Selection.{Selection}
+use Rattle.decision.specs.declared.Selection.the-variants as selection
+use Rattle.decision.specs.declared.Decision.{Decision}
+use Rattle.decision.specs.declared.Decision.the-variants.{Result}
+use Rattle.decision.specs.Decision.{outOfRange, Straddling, finishBy, decideGears, decideWhole, decideBy, decisionOf, sheetVehicle, sheetClosing, sheetSession, pmrIn, referenceIn, choiceIn, selectionIn}
+use Rattle.decision.proofs.Selections.{straddling, Measuring, measuring}
+
+pub record Decided (s : List ℕ) (o : Outcome) : Type 0 where
+  pub sheet : WholeSheet s (sheetVehicle s) (sheetClosing s)
+  pub low : 50 ≤ pmrIn s
+  pub high : pmrIn s ≤ 6000
+  pub chosen-gears : Chosen
+  pub chosen-is : selectionIn s ≡ selection.Chosen chosen-gears
+  pub straddled : Straddled (referenceIn s) chosen-gears
+  pub measured : Measuring (sheetSession s) (selection.Chosen chosen-gears)
+  pub is : o ≡ outcomeOf (referenceIn s) (sheetVehicle s .limit) (basisOf (referenceIn s) chosen-gears)
+
+-- what was selected, where it gives a result
+selected : (r : Reference) (limit : ℕ) (x : Selection) (o : Outcome) → Straddling r x → finishBy r limit x ≡ Result o → (g : Chosen) × (x ≡ selection.Chosen g) × Straddled r g × (o ≡ outcomeOf r limit (basisOf r g))
+unfolding finishBy
+selected r limit (selection.Refused x) o h e = absurd (let z : _≡_ {A = ℕ} 0 1 = cc in omega arith)
+selected r limit (selection.Chosen g) o h e = let same : outcomeOf r limit (basisOf r g) ≡ o = cc in (g, refl, h, sym same)
+
+module _ (s : List ℕ) (o : Outcome) (w : WholeSheet s (sheetVehicle s) (sheetClosing s)) where
+  rules : Selectable (referenceIn s .«a_ref» .0) (gearsOf (sheetSession s)) (choiceIn s)
+  unfolding choiceIn
+  rules = sound (referenceIn s) (gearsOf (sheetSession s))
+
+  straddles : Straddling (referenceIn s) (selectionIn s)
+  unfolding selectionIn
+  straddles = straddling (referenceIn s) (sheetSession s) (gearsOf (sheetSession s)) (windowsOf (sheetSession s)) (choiceIn s) rules
+
+  windows : Measuring (sheetSession s) (selectionIn s)
+  unfolding selectionIn
+  windows = measuring (sheetSession s) (referenceIn s .«a_ref» .0) (choiceIn s) rules
+
+  from-gears : 50 ≤ pmrIn s → pmrIn s ≤ 6000 → finishBy (referenceIn s) (sheetVehicle s .limit) (selectionIn s) ≡ Result o → Decided s o
+  from-gears lo hi e =
+      let r = selected (referenceIn s) (sheetVehicle s .limit) (selectionIn s) o straddles e in
+      record {
+        sheet = w;
+        low = lo;
+        high = hi;
+        chosen-gears = r .0;
+        chosen-is = r .1;
+        straddled = r .2;
+        measured = subst (Measuring (sheetSession s)) (r .1) windows;
+        is = r .3;
+      }
+
+  Then : Decision → Type 0
+  Then d = d ≡ Result o → Decided s o
+
+  from-whole : Then (decideWhole (sheetSession s) (pmrIn s) (sheetVehicle s .limit))
+  unfolding Then decideWhole decideGears referenceIn choiceIn selectionIn sheetSession
+  from-whole =
+      by-test Then (outOfRange (pmrIn s)) _ _ (λ p e. absurd (let y : _≡_ {A = ℕ} 0 1 = cc in omega arith))
+      (λ p.
+      let range = neither (ltb (pmrIn s) 50) (ltb 6000 (pmrIn s)) p in
+      by-test Then (not (anyAcceleration s)) _ _ (λ n e. absurd (let y : _≡_ {A = ℕ} 0 1 = cc in omega arith))
+      (λ n. by-test Then (ltb (lowestNoWindow (sheetSession s)) 16) _ _ (λ l e. absurd (let y : _≡_ {A = ℕ} 0 1 = cc in omega arith))
+      (λ l. by-test Then (ltb (firstNotFalling (gearsOf (sheetSession s))) (length (gearsOf (sheetSession s)) - 1)) _ _ (λ f e. absurd (let y : _≡_ {A = ℕ} 0 1 = cc in omega arith))
+      (λ f e. from-gears (ltb-false (pmrIn s) 50 (range .0)) (ltb-false 6000 (pmrIn s) (range .1)) e))))
+
+pub decided : (s : List ℕ) (o : Outcome) → decisionOf s ≡ Result o → Decided s o
+unfolding decisionOf decideBy sheetVehicle sheetClosing sheetSession pmrIn Then
+decided s o e = by (examined s) refl e
+  where
+    by : (x : Examination) → examined s ≡ x → decideBy s x ≡ Result o → Decided s o
+    by (examination.Refused r) w k = absurd (let y : _≡_ {A = ℕ} 0 1 = cc in omega arith)
+    by (examination.Whole v z) w k =
+        let sheet = whole s v z w in
+        let same : examination.Whole v z ≡ examination.Whole (sheetVehicle s) (sheetClosing s) = ap₂ examination.Whole (sheet .vehicle-is) (sheet .closing-is) in
+        from-whole s o (whole s (sheetVehicle s) (sheetClosing s) (w ∙ same)) (ap (decideBy s) (sym same) ∙ k)

@@ -1,3 +1,0 @@
-pub mod Fractions
-pub mod Figure
-pub mod Demand

@@ -1,0 +1,97 @@
+-- The table of refusals (document 01, "Refusals and what remains"), row by row in the order of checking, each a number, a cause and a place; and
+-- what it is to be the first row whose cause holds. The rows from 6 on read the first and the last record as a vehicle and a closing record,
+-- which they are where no row before holds.
+use mathlib.Core.Path.{_≡_}
+use mathlib.Core.Bool.{Bool, true, false, cond, not, _||_}
+use mathlib.Core.List.{List, [], _∷_}
+use Prim.Native.Nat.{ℕ, _-_, _+_, _<_}
+use lib.Dec.{ltb}
+use lib.ListN.{length, getD}
+use Rattle.record.specs.Records.{records}
+use Rattle.sheet.specs.Sheet.{lastOf, wrongSize, noVehicle, noClosing, lowestBroken, anyAcceleration}
+use Rattle.window.specs.declared.Window.{Window}
+use Rattle.window.specs.declared.Window.the-variants as window
+use Rattle.gears.specs.declared.Choice.{Choice}
+use Rattle.gears.specs.declared.Choice.the-variants as choice
+use Rattle.gears.specs.Rules.{gearAt, firstNotFalling}
+use Rattle.session.specs.Session.{Session, windowIn, lowestNoWindow, gearsOf}
+use Rattle.decision.specs.Decision.{outOfRange, sheetSession, pmrIn, choiceIn}
+
+pub record Row : Type 0 where
+  pub number : ℕ
+  pub holds : Bool
+  pub place : ℕ
+
+abbrev pub row : ℕ → Bool → ℕ → Row
+row n holds p = record { number = n; holds = holds; place = p }
+
+-- ---- the causes of rows 9 and 10
+
+-- no gear remains, or no rule applies
+abbrev pub undecided : Choice → Bool
+undecided (choice.One rule p) = false
+undecided (choice.Pair rule p) = false
+undecided choice.Nothing = true
+
+-- there is no window
+abbrev pub missing : Window → Bool
+missing (window.Runs f) = false
+missing window.Nothing = true
+
+-- the number of the gear at a place, and whether that gear has no constant-speed window
+abbrev pub gearNumber : Session → ℕ → ℕ
+gearNumber t p = gearAt (gearsOf t) p .number
+
+abbrev pub noConstantAt : Session → ℕ → Bool
+noConstantAt t p = missing (windowIn t 3 (gearNumber t p))
+
+-- a chosen gear has none
+abbrev pub noConstant : Session → Choice → Bool
+noConstant t (choice.One rule p) = noConstantAt t p
+noConstant t (choice.Pair rule p) = noConstantAt t p || noConstantAt t (p + 1)
+noConstant t choice.Nothing = false
+
+-- the lowest such gear: gear i of a pair has the lower number
+abbrev pub lowestNoConstant : Session → Choice → ℕ
+lowestNoConstant t (choice.One rule p) = gearNumber t p
+lowestNoConstant t (choice.Pair rule p) = cond (noConstantAt t p) (gearNumber t p) (gearNumber t (p + 1))
+lowestNoConstant t choice.Nothing = 0
+
+-- ---- the table, for a sheet and a result buffer of this size
+
+unfoldable pub rows : List ℕ → ℕ → List Row
+rows s size =
+    let t = sheetSession s in
+    let gears = gearsOf t in
+    row 1 (ltb size 32) 0
+    ∷ row 2 (wrongSize s) 0
+    ∷ row 3 (noVehicle s) 0
+    ∷ row 4 (noClosing s) (lastOf s)
+    ∷ row 5 (ltb (lowestBroken s) (records s)) (lowestBroken s)
+    ∷ row 6 (outOfRange (pmrIn s)) 0
+    -- no acceleration run, or a gear with one and no window
+    ∷ row 7 (not (anyAcceleration s)) 0
+    ∷ row 7 (ltb (lowestNoWindow t) 16) (lowestNoWindow t + 1)
+    -- neighbours that do not fall: the lower of the first
+    ∷ row 8 (ltb (firstNotFalling gears) (length gears - 1)) (gearNumber t (firstNotFalling gears))
+    ∷ row 9 (undecided (choiceIn s)) 0
+    ∷ row 10 (noConstant t (choiceIn s)) (lowestNoConstant t (choiceIn s))
+    ∷ []
+
+-- ---- the first row whose cause holds
+
+-- what stands past the end of the table
+abbrev pub emptyRow : Row
+emptyRow = row 0 false 0
+
+-- a row's cause holds, none before it does, and the row has this number and this place
+pub record First (table : List Row) (n p : ℕ) : Type 0 where
+  pub at : ℕ
+  pub holds : getD table at emptyRow .holds ≡ true
+  pub before : (m : ℕ) → m < at → getD table m emptyRow .holds ≡ false
+  pub number : getD table at emptyRow .number ≡ n
+  pub place : getD table at emptyRow .place ≡ p
+
+-- no row's cause holds
+abbrev pub None : List Row → Type 0
+None table = (m : ℕ) → getD table m emptyRow .holds ≡ false

@@ -1,0 +1,93 @@
+-- What the definitions give for the starred examples, for the runs that the worked sheet chooses, and for a louder sheet: one test, computed once.
+-- Assumes nothing.
+use mathlib.Core.Path.{_≡_, refl, ap₂}
+use mathlib.Core.Bool.{Bool, true, false, _&&_}
+use mathlib.Core.List.{List, [], _∷_, map}
+use Prim.Native.Nat.{ℕ}
+use lib.Dec.{T, eqb, eqb→eq}
+use lib.Ieee.Fits.{and-l, and-r}
+use lib.Ieee.{ofBits}
+use lib.Seq.{sets}
+use Rattle.units.specs.Bytes.{number}
+use Rattle.units.specs.Tests.{lowest, some, pastLast, allOf}
+use Rattle.units.specs.Rounding.{rounded}
+use Rattle.level.specs.Reading.{inRange, readingOf}
+use Rattle.level.specs.Level.{tenthsOf, corrections, correctionOf, correctedSide, sideOf}
+use Rattle.record.specs.Records.{records, recordAt, zeros, vehicleTests, vehicleGood, vehicleIn, runTests, runGood, runIn, readingFrom, closingTests, closingGood, closingIn}
+use Rattle.sheet.specs.Sheet.{wrongSize, noVehicle, noClosing, goodAt, lowestBroken, examined, anyAcceleration, hasAcceleration}
+use Rattle.window.specs.Windows.{spanned, fitting, emptyRun, fourAt, firstPlace, firstWindow, largerSum, conditionLevel, emptyFour}
+use Rattle.valid_runs.specs.ValidRuns.{bothSides, validOf, candidateOf, restFrom, restOf, windowOf}
+use Rattle.reference.specs.Reference.{pmrOf, between, aUrban, aRef, referenceAt}
+use Rattle.gears.specs.Acceleration.{accelerationOf, meanOf}
+use Rattle.gears.specs.Rules.{emptyGear, gearAt, a, firstNotFalling, gap, near, nearer, nearest, jOf, firstBelow, oneAt, acrossOf, choiceOf, kOf}
+use Rattle.session.specs.Session.{slowEnough, gearAcceleration, byWindow, stateOf, lowestNoWindow, remainingFrom, remaining, gearsOf, windowsOf}
+use Rattle.urban.specs.Urban.{weighedLevel, basisOf, partPower, lUrbanOf, outcomeOf}
+use Rattle.result.specs.Result.{fieldsOf}
+use Rattle.decision.specs.Decision.{windowAt, measuredBy, measuredAt, oneOf, pairOf, selectedIn, finishBy, decideGears, decideWhole, trackOf, decideBy, decisionOf, sheetVehicle, sheetClosing, sheetSession, pmrIn, referenceIn, choiceIn, selectionIn}
+use Rattle.evaluation.specs.Demand.{chosenRuns}
+use Rattle.examples.specs.Starred.{Example, gives, shouldGive, starred, decisionGives, workedSheet}
+
+unfoldable pub same : List ℕ → List ℕ → Bool
+same [] [] = true
+same (x ∷ xs) (y ∷ ys) = eqb x y && same xs ys
+same [] (y ∷ ys) = false
+same (x ∷ xs) [] = false
+
+same→≡ : (xs ys : List ℕ) → T (same xs ys) → xs ≡ ys
+unfolding same
+same→≡ [] [] t = refl
+same→≡ (x ∷ xs) (y ∷ ys) t = ap₂ _∷_ (eqb→eq x y (and-l (eqb x y) (same xs ys) t)) (same→≡ xs ys (and-r (eqb x y) (same xs ys) t))
+same→≡ [] (y ∷ ys) t = absurd t
+same→≡ (x ∷ xs) [] t = absurd t
+
+-- an example holds, as a test
+unfoldable pub test : Example → Bool
+test e = same (gives e) (shouldGive e)
+
+pub holds : (e : Example) → T (test e) → gives e ≡ shouldGive e
+unfolding test
+holds e t = same→≡ (gives e) (shouldGive e) t
+
+-- ---- the chosen runs, and a louder sheet
+
+-- records 5 to 8 and 13 to 16 of gear 3, 9 to 12 and 17 to 20 of gear 4
+abbrev pub workedRuns : List ℕ
+workedRuns = 5 ∷ 6 ∷ 7 ∷ 8 ∷ 13 ∷ 14 ∷ 15 ∷ 16 ∷ 9 ∷ 10 ∷ 11 ∷ 12 ∷ 17 ∷ 18 ∷ 19 ∷ 20 ∷ []
+
+-- 73.5 for 72.5 in records 5 and 6, 73.25 for 72.25 in records 7 and 8
+abbrev pub louderSheet : List ℕ
+louderSheet = sets (sets (sets (sets workedSheet 170 (0x93 ∷ [])) 202 (0x93 ∷ [])) 234 (0x92 ∷ [])) 266 (0x92 ∷ [])
+
+-- its L_urban is 71, where the worked sheet's is 70
+abbrev pub louderFields : List ℕ
+louderFields = 3 ∷ 3 ∷ 4 ∷ 78 ∷ 29 ∷ 727 ∷ 658 ∷ 71 ∷ 106 ∷ 149 ∷ 667 ∷ 149 ∷ 1 ∷ []
+
+runsTest : List ℕ → Bool
+runsTest s = same (chosenRuns s) workedRuns
+
+louderTest : Bool
+louderTest = same (decisionGives (decisionOf louderSheet)) louderFields
+
+-- ---- the test
+
+computed : T (allOf (map test starred) && (runsTest workedSheet && (runsTest louderSheet && louderTest)))
+unfolding starred same test runsTest louderTest number lowest some pastLast rounded corrections correctionOf correctedSide sideOf inRange tenthsOf readingOf ofBits pmrOf between aUrban aRef referenceAt records recordAt zeros vehicleTests vehicleGood vehicleIn runTests runGood runIn readingFrom closingTests closingGood closingIn wrongSize noVehicle noClosing goodAt lowestBroken examined anyAcceleration hasAcceleration bothSides validOf candidateOf restFrom restOf windowOf spanned fitting emptyRun fourAt firstPlace firstWindow largerSum conditionLevel emptyFour accelerationOf meanOf emptyGear gearAt a firstNotFalling gap near nearer nearest jOf firstBelow oneAt acrossOf choiceOf kOf slowEnough gearAcceleration byWindow stateOf lowestNoWindow remainingFrom remaining gearsOf windowsOf weighedLevel basisOf partPower lUrbanOf outcomeOf windowAt measuredBy measuredAt oneOf pairOf selectedIn finishBy decideGears decideWhole trackOf decideBy decisionOf sheetVehicle sheetClosing sheetSession pmrIn referenceIn choiceIn selectionIn fieldsOf chosenRuns
+computed = tt
+
+pub every-starred-test : T (allOf (map test starred))
+every-starred-test = and-l (allOf (map test starred)) (runsTest workedSheet && (runsTest louderSheet && louderTest)) computed
+
+others : T (runsTest workedSheet && (runsTest louderSheet && louderTest))
+others = and-r (allOf (map test starred)) (runsTest workedSheet && (runsTest louderSheet && louderTest)) computed
+
+pub worked-runs : chosenRuns workedSheet ≡ workedRuns
+unfolding runsTest
+worked-runs = same→≡ (chosenRuns workedSheet) workedRuns (and-l (runsTest workedSheet) (runsTest louderSheet && louderTest) others)
+
+pub louder-runs : chosenRuns louderSheet ≡ workedRuns
+unfolding runsTest
+louder-runs = same→≡ (chosenRuns louderSheet) workedRuns (and-l (runsTest louderSheet) louderTest (and-r (runsTest workedSheet) (runsTest louderSheet && louderTest) others))
+
+pub louder-fields : decisionGives (decisionOf louderSheet) ≡ louderFields
+unfolding louderTest
+louder-fields = same→≡ (decisionGives (decisionOf louderSheet)) louderFields (and-r (runsTest louderSheet) louderTest (and-r (runsTest workedSheet) (runsTest louderSheet && louderTest) others))

@@ -1,0 +1,162 @@
+-- The starred examples of document 01 ("Driven examples"): for each, what the rules give and what they should give, as numbers.
+-- Levels are in tenths of dB(A), accelerations in hundredths of m/s², speeds in tenths of km/h; floats are written by their bit patterns.
+use mathlib.Core.Path.{_≡_}
+use mathlib.Core.List.{List, [], _∷_, _++_, map}
+use Prim.Native.Nat.{ℕ, zero, suc, _+_, _%_, _/_}
+use lib.Ieee.{binary32, ofBits}
+use lib.ListN.{replicate}
+use Rattle.refusal.specs.Refusal.{numberOf, placeOf}
+use Rattle.level.specs.declared.Side.{Side}
+use Rattle.level.specs.declared.Side.the-variants as side
+use Rattle.level.specs.Level.{tenthsOf, correctedSide}
+use Rattle.window.specs.declared.ValidRun.{ValidRun}
+use Rattle.window.specs.declared.Window.{Window}
+use Rattle.window.specs.declared.Window.the-variants as window
+use Rattle.window.specs.Windows.{firstWindow}
+use Rattle.reference.specs.declared.Reference.{Reference}
+use Rattle.reference.specs.Reference.{aUrban, aRef}
+use Rattle.gears.specs.declared.Gear.{Gear}
+use Rattle.gears.specs.declared.Choice.{Choice}
+use Rattle.gears.specs.declared.Choice.the-variants as choice
+use Rattle.gears.specs.Acceleration.{accelerationOf}
+use Rattle.gears.specs.Rules.{choiceOf}
+use Rattle.urban.specs.Urban.{lUrbanOf}
+use Rattle.result.specs.Result.{fieldsOf}
+use Rattle.decision.specs.declared.Decision.{Decision}
+use Rattle.decision.specs.declared.Decision.the-variants as decision
+use Rattle.decision.specs.Decision.{decisionOf}
+use Rattle.evaluation.specs.Demand.{numbersOf}
+
+pub data Example : Type 0 where
+  -- the pattern of a float; its tenths
+  tenths : ℕ → ℕ → Example
+  -- a level and its background; the corrected level
+  corrected : ℕ → ℕ → ℕ → Example
+  -- the levels of runs 1, 2, .., the same on both sides; the numbers of the window's four runs
+  windowed : List ℕ → List ℕ → Example
+  -- PMR in tenths; a_urban and a_ref
+  references : ℕ → ℕ → ℕ → Example
+  -- the path c + length in cm, the speeds at the start line and at BB'; the run's acceleration
+  accelerated : ℕ → ℕ → ℕ → ℕ → Example
+  -- R, a_urban and the accelerations of gears 1, 2, ..; the rule and the places, from 1 on, of the gears it decides on
+  chosen : ℕ → ℕ → List ℕ → List ℕ → Example
+  -- PMR in tenths, a_urban, a', W and C; kp in hundredths
+  powered : ℕ → ℕ → ℕ → ℕ → ℕ → ℕ → Example
+  -- the bytes of a sheet; the fields that the program prints
+  evaluated : List ℕ → List ℕ → Example
+
+-- ---- what the rules give, as numbers
+
+abbrev pub sideGives : Side → List ℕ
+sideGives (side.Corrected l) = l .0 ∷ []
+sideGives side.NotValid = []
+
+-- runs n, n + 1, .. with these levels on both sides
+abbrev pub runsFrom : ℕ → List ℕ → List ValidRun
+runsFrom n [] = []
+runsFrom n (l ∷ levels) =
+    record { left = record { 0 = l }; right = record { 0 = l }; start = 0; end = 0; engine = 0; number = n } ∷ runsFrom (n + 1) levels
+
+abbrev pub windowGives : Window → List ℕ
+windowGives (window.Runs f) = numbersOf f
+windowGives window.Nothing = []
+
+abbrev pub gearsWith : List ℕ → List Gear
+gearsWith = map (λ x. record { number = 0; acceleration = record { 0 = x } })
+
+-- PMR in tenths, a_urban, a_ref
+abbrev pub referred : ℕ → ℕ → ℕ → Reference
+referred q u r = record { pmr = q; «a_urban» = record { 0 = u }; «a_ref» = record { 0 = r } }
+
+abbrev pub choiceGives : Choice → List ℕ
+choiceGives (choice.One rule p) = rule ∷ (p + 1) ∷ []
+choiceGives (choice.Pair rule p) = rule ∷ (p + 1) ∷ (p + 2) ∷ []
+choiceGives choice.Nothing = []
+
+-- the fields of a result as they are printed; of a refusal its number and place
+abbrev pub decisionGives : Decision → List ℕ
+decisionGives (decision.Refused r) = numberOf r ∷ placeOf r ∷ []
+decisionGives (decision.Result o) = fieldsOf o
+
+abbrev pub gives : Example → List ℕ
+gives (tenths pattern n) = tenthsOf (ofBits binary32 pattern) ∷ []
+gives (corrected level background n) = sideGives (correctedSide level background)
+gives (windowed levels numbers) = windowGives (firstWindow (runsFrom 1 levels))
+gives (references q u r) = aUrban q ∷ aRef q ∷ []
+gives (accelerated path start end n) = accelerationOf start end path ∷ []
+gives (chosen R u accelerations numbers) = choiceGives (choiceOf (referred 0 u R) (gearsWith accelerations))
+gives (powered q u a w c kp) = lUrbanOf (referred q u 0) a w c .kp ∷ []
+gives (evaluated s fields) = decisionGives (decisionOf s)
+
+abbrev pub shouldGive : Example → List ℕ
+shouldGive (tenths pattern n) = n ∷ []
+shouldGive (corrected level background n) = n ∷ []
+shouldGive (windowed levels numbers) = numbers
+shouldGive (references q u r) = u ∷ r ∷ []
+shouldGive (accelerated path start end n) = n ∷ []
+shouldGive (chosen R u accelerations numbers) = numbers
+shouldGive (powered q u a w c kp) = kp ∷ []
+shouldGive (evaluated s fields) = fields
+
+-- an example holds if the rules give what they should
+abbrev pub Holds : Example → Type 0
+Holds e = gives e ≡ shouldGive e
+
+-- ---- the worked sheet
+
+-- the low `width` bytes of n, low byte first
+abbrev pub bytesOf : ℕ → ℕ → List ℕ
+bytesOf zero n = []
+bytesOf (suc width) n = (n % 256) ∷ bytesOf width (n / 256)
+
+-- a run that is not struck, both readings levels, at 4,000 per minute: its kind and gear, its speeds, the patterns of its left and right
+abbrev pub run : ℕ → ℕ → ℕ → ℕ → ℕ → ℕ → List ℕ
+run kind gear start end left right =
+    (kind ∷ gear ∷ 0 ∷ 1 ∷ 1 ∷ 0 ∷ 0 ∷ 0 ∷ [])
+    ++ bytesOf 4 left ++ bytesOf 4 right ++ bytesOf 2 start ++ bytesOf 2 end ++ bytesOf 2 4000 ++ replicate 10 0
+
+-- the same run four times
+abbrev pub four : List ℕ → List ℕ
+four r = r ++ r ++ r ++ r
+
+abbrev pub workedSheet : List ℕ
+workedSheet =
+    -- M1, from AA', P 100.0 kW, m 1,500 kg, length 450 cm, S 6,000, background 40.0, limit 72
+    (1 ∷ 1 ∷ 0 ∷ 0 ∷ [])
+    ++ bytesOf 2 1000 ++ bytesOf 2 1500 ++ bytesOf 2 450 ++ bytesOf 2 6000 ++ bytesOf 2 400 ++ bytesOf 2 72 ++ replicate 16 0
+    -- acceleration, gear 2: 74.0 on both sides
+    ++ four (run 2 2 430 570 0x4294_0000 0x4294_0000)
+    -- gear 3: 72.5 twice and 72.25 twice on the left, 71.5 on the right
+    ++ run 2 3 442 545 0x4291_0000 0x428f_0000 ++ run 2 3 442 545 0x4291_0000 0x428f_0000
+    ++ run 2 3 442 545 0x4290_8000 0x428f_0000 ++ run 2 3 442 545 0x4290_8000 0x428f_0000
+    -- gear 4: 70.125 and 70.0
+    ++ four (run 2 4 470 539 0x428c_4000 0x428c_0000)
+    -- constant speed, gear 3: 66.0 and 65.5; gear 4: 65.0 and 65.1875
+    ++ four (run 3 3 500 500 0x4284_0000 0x4283_0000)
+    ++ four (run 3 4 500 500 0x4282_0000 0x4282_6000)
+    -- 20 runs, background 40.0
+    ++ (9 ∷ 0 ∷ []) ++ bytesOf 2 20 ++ bytesOf 2 400 ++ replicate 26 0
+
+unfoldable pub starred : List Example
+starred =
+    -- 72.25 gives 72.3, 72.125 gives 72.1
+    tenths 0x4290_8000 723
+    ∷ tenths 0x4290_4000 721
+    -- over 40.0: d 10.9 takes 0.5 off, d 15.0 nothing
+    ∷ corrected 509 400 504
+    ∷ corrected 550 400 550
+    -- 70.0, 72.1, 71.0, 71.0, 71.0: runs 2 to 5
+    ∷ windowed (700 ∷ 721 ∷ 710 ∷ 710 ∷ 710 ∷ []) (2 ∷ 3 ∷ 4 ∷ 5 ∷ [])
+    -- PMR 25.0, 100.0 and 600.0
+    ∷ references 250 79 81
+    ∷ references 1000 117 177
+    ∷ references 6000 166 301
+    -- length 450, AA' 44.0, BB' 56.0: 1.89
+    ∷ accelerated 2450 440 560 189
+    -- R 1.49, gears 1.56 and 1.42: the first, alone, by rule 2
+    ∷ chosen 149 106 (156 ∷ 142 ∷ []) (2 ∷ 1 ∷ [])
+    -- one gear, a 1.00, a_urban 1.06, W not below C: kp 0
+    ∷ powered 667 106 100 700 650 0
+    -- the worked sheet
+    ∷ evaluated workedSheet (3 ∷ 3 ∷ 4 ∷ 78 ∷ 29 ∷ 719 ∷ 658 ∷ 70 ∷ 106 ∷ 149 ∷ 667 ∷ 149 ∷ 1 ∷ [])
+    ∷ []

@@ -1,4 +1,0 @@
-pub mod Answer
-pub mod Demand
-pub mod Causes
-pub mod Verdict

@@ -1,0 +1,7 @@
+pub mod Shown
+pub mod Fields
+pub mod VehicleRanges
+pub mod ClosingRanges
+pub mod Readings
+pub mod Layouts
+pub mod SameBytes

@@ -1,2 +1,0 @@
-pub mod Seeking
-pub mod Members

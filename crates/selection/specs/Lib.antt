@@ -1,2 +1,0 @@
-pub mod Selection
-pub mod Sound

@@ -1,3 +1,0 @@
-pub mod Corrections
-pub mod Sides
-mod Examples

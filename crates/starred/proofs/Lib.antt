@@ -1,3 +1,0 @@
-pub mod Starred
-pub mod Louder
-mod Sheets

@@ -1,2 +1,0 @@
-pub mod Validities
-pub mod Counting

@@ -1,0 +1,4 @@
+pub mod Validities
+pub mod Counting
+pub mod Seeking
+pub mod Members
