@@ -2,8 +2,9 @@
 use refusal::Answer;
 ghost use mathlib.Core.Path.{_≡_};
 ghost use Prim.Native.Nat.{_≤_};
-ghost use lib.ListN.{length, take};
+ghost use lib.ListN.{length};
 ghost use Rattle.result.specs.Result.{outcomeIn, fieldsOf};
+ghost use Rattle.text.specs.Text.{onto};
 ghost use Rattle.line.specs.Line.{lineOf};
 
 // The 13 fields of the result record as they are printed, pass last.
@@ -30,12 +31,13 @@ fn fields_of(result: &[u8]) -> [u64; 13]
     ]
 }
 
-// The line for an answer and its result buffer, with its line feed; answers how many bytes it takes.
+// The line for an answer and its result buffer, with its line feed, at the front of `out`; answers how many bytes it takes. The bytes behind
+// it stay.
 pub fn line(answer: Answer, result: &[u8], out: &mut [u8]) -> usize
     requires { ⌜ 32 ≤ length (now result) ⌝ }
     requires { ⌜ 276 ≤ length (now out) ⌝ }
-    ensures { λ r. ⌜ r ≤ 276 ⌝ }
-    ensures { λ r. ⌜ take r (now (out .exit)) ≡ lineOf answer (now (result .entry)) ⌝ }
+    ensures size { λ r. ⌜ (r ≡ length (lineOf answer (now (result .entry)))) × (r ≤ 276) ⌝ }
+    ensures bytes { λ _. ⌜ now (out .exit) ≡ onto (lineOf answer (now (result .entry))) (now (out .entry)) ⌝ }
 {
     match answer {
         Answer::Accepted => text::put_line(b"OK", &fields_of(result), out),
