@@ -3,10 +3,8 @@ use mathlib.Core.Bool.{cond}
 use mathlib.Core.List.{List, []}
 use Prim.Native.Nat.{ℕ}
 use lib.Dec.{ltb}
-use lib.ListN.{replicate}
-use Rattle.evaluation.specs.Answer.{answerOf, bufferOf}
-use Rattle.line.specs.Line.{lineOf}
+use Rattle.line.specs.Line.{lineOfSheet}
 
 -- the line, and nothing for a buffer of less than 276 bytes, which might not hold it
 unfoldable pub printedOf : List ℕ → ℕ → List ℕ
-printedOf s size = cond (ltb size 276) [] (lineOf (answerOf s 32) (bufferOf s (replicate 32 0)))
+printedOf s size = cond (ltb size 276) [] (lineOfSheet s)

@@ -33,7 +33,5 @@ pub extern "C" fn ruthimpo_line(sheet: &[u8], out: &mut [u8]) -> usize
     if out.len() < 276 {
         return 0;
     }
-    let mut result = [0u8; 32];
-    let answer = evaluation::evaluate(sheet, &mut result);
-    line::line(answer, &result, out)
+    line::sheet_line(sheet, out)
 }
