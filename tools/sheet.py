@@ -284,7 +284,7 @@ def put_groups(record, cell, places):
 def falling_speed(record):
     if record[0] == ACCELERATION_RUN and number(record, END_SPEED.at) < number(record, START_SPEED.at):
         yield Fault(END_SPEED.name, END_SPEED.at, END_SPEED.shown(record),
-                    f"in an acceleration run not below the speed at the start line, {START_SPEED.shown(record)}")
+                    f"in an acceleration run at least {START_SPEED.shown(record)}, as at the start line")
 
 
 def unnamed_bytes(record):
