@@ -314,7 +314,7 @@ def sheet_faults(sheet):
         yield f"its first record is no vehicle: byte 0 is {records[0][0]}; allowed: {VEHICLE}"
     if records and records[-1][0] != CLOSING:
         yield f"its last record is no closing: byte 0 is {records[-1][0]}; allowed: {CLOSING}"
-    elif records and number(records[-1], RUNS.at) != len(records) - 2:
+    elif len(records) > 1 and number(records[-1], RUNS.at) != len(records) - 2:
         yield f"its closing counts {RUNS.shown(records[-1])} runs; allowed: all records less two, {len(records) - 2}"
 
 
