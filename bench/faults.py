@@ -27,6 +27,7 @@ import subprocess
 import sys
 import tempfile
 import termios
+import threading
 import time
 from contextlib import contextmanager
 from functools import partial
@@ -290,8 +291,13 @@ def fill(connection):
         return count
 
 
-def all_from(connection):
-    return b"".join(iter(lambda: connection.recv(65536), b""))
+def all_from(read, child):
+    """What a program writes, by its reader's reads, up to its end; one that takes too long is ended."""
+    limit = threading.Timer(LONGEST, child.kill)
+    limit.start()
+    out = b"".join(iter(lambda: read(65536), b""))
+    limit.cancel()
+    return out
 
 
 def interrupted_write():
@@ -302,7 +308,7 @@ def interrupted_write():
         far.close()
         until(lambda: is_waiting(child))
         stop_and_continue(child)
-        out = all_from(near)[filled:]
+        out = all_from(near.recv, child)[filled:]
         return ended(child)._replace(out=out)
 
 
@@ -329,11 +335,11 @@ def full_pipe_without_waiting():
 
 def full_pipe_emptied_later():
     reader, writer = full_pipe()
-    with file_of(WORKED) as file, open(reader, "rb") as source:
+    with file_of(WORKED) as file, open(reader, "rb", buffering=0) as source:
         child = start(file, stdout=writer)
         os.close(writer)
         until(lambda: is_waiting(child))
-        out = source.read().lstrip(b"\0")
+        out = all_from(source.read, child).lstrip(b"\0")
         return ended(child)._replace(out=out)
 
 
