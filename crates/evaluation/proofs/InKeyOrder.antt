@@ -55,12 +55,12 @@ module _ (key : ℕ → ℕ) where
       by true e = absurd (let none : ⊥ = omega (arith, at-least (key x + 1) xs x (r .1) e) in none)
       by false e = refl
 
-  pub told : (low : ℕ) (xs ys : List ℕ) → Rises low xs → Rises low ys → ((n : ℕ) → among n xs ≡ among n ys) → xs ≡ ys
+  pub one-list : (low : ℕ) (xs ys : List ℕ) → Rises low xs → Rises low ys → ((n : ℕ) → among n xs ≡ among n ys) → xs ≡ ys
   unfolding Rises among
-  told low [] [] r r′ same = refl
-  told low [] (y ∷ ys) r r′ same = absurd (true≢false (sym (same y ∙ ap (λ (b : Bool). b || among y ys) (eq-eqb y y refl))))
-  told low (x ∷ xs) [] r r′ same = absurd (true≢false (sym (ap (λ (b : Bool). b || among x xs) (eq-eqb x x refl)) ∙ same x))
-  told low (x ∷ xs) (y ∷ ys) r r′ same = let e = heads (eqb x y) refl in ap₂ _∷_ e (told (key x + 1) xs ys (r .1) (rw e (r′ .1)) (λ n. tails e n (eqb n x) refl))
+  one-list low [] [] r r′ same = refl
+  one-list low [] (y ∷ ys) r r′ same = absurd (true≢false (sym (same y ∙ ap (λ (b : Bool). b || among y ys) (eq-eqb y y refl))))
+  one-list low (x ∷ xs) [] r r′ same = absurd (true≢false (sym (ap (λ (b : Bool). b || among x xs) (eq-eqb x x refl)) ∙ same x))
+  one-list low (x ∷ xs) (y ∷ ys) r r′ same = let e = heads (eqb x y) refl in ap₂ _∷_ e (one-list (key x + 1) xs ys (r .1) (rw e (r′ .1)) (λ n. tails e n (eqb n x) refl))
     where
       heads : (b : Bool) → eqb x y ≡ b → x ≡ y
       heads true q = eqb-true x y q

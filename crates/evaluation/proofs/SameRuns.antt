@@ -25,7 +25,7 @@ use Rattle.decision.proofs.Results.{Decided}
 use Rattle.figure.specs.Figure.{accelerating, constant}
 use Rattle.evaluation.specs.Demand.{numbersOf, runsOf, chosenRunsBy, chosenRuns, isChosen, OnlyLevels}
 use Rattle.evaluation.proofs.OnlyLevels.{same-records, same-before}
-use Rattle.evaluation.proofs.InKeyOrder.{Rises, rises-later, told}
+use Rattle.evaluation.proofs.InKeyOrder.{Rises, rises-later, one-list}
 
 -- gear and kind of a record as one number, and with them its own number as one
 group : ℕ → ℕ → ℕ
@@ -99,7 +99,7 @@ module _ (s s′ : List ℕ) (only : OnlyLevels s s′) where
 
   pub same-list : (o o′ : Outcome) → Decided s o → Decided s′ o′ → ((n : ℕ) → isChosen s n ≡ isChosen s′ n) → chosenRuns s ≡ chosenRuns s′
   same-list o o′ d d′ same =
-      told (key s) 0 (chosenRuns s) (chosenRuns s′)
+      one-list (key s) 0 (chosenRuns s) (chosenRuns s′)
       (runs-rise (key s) s (few-records s (d .sheet)) (λ n h. refl) (d .chosen-gears) (d .chosen-is) (d .measured))
       (runs-rise (key s) s′ (few-records s′ (d′ .sheet)) same-key (d′ .chosen-gears) (d′ .chosen-is) (d′ .measured))
       same

@@ -20,11 +20,11 @@ use Rattle.session.specs.Session.{Session, hasNoWindow, lowestNoWindow, 
 -- ---- one place more
 
 module _ (t : Session) where
-  in-front : (x : State) (a b : List Entry) → withRemaining x (a ++ b) ≡ withRemaining x a ++ b
-  in-front (Remains g f) a b = refl
-  in-front Dropped a b = refl
-  in-front NoWindow a b = refl
-  in-front NoRun a b = refl
+  kept-in-front : (x : State) (a b : List Entry) → withRemaining x (a ++ b) ≡ withRemaining x a ++ b
+  kept-in-front (Remains g f) a b = refl
+  kept-in-front Dropped a b = refl
+  kept-in-front NoWindow a b = refl
+  kept-in-front NoRun a b = refl
 
   -- the last of the places adds what becomes of its gear
   last-place : (p count : ℕ) → remainingFrom t p (suc count) ≡ remainingFrom t p count ++ withRemaining (stateOf t (p + count + 1)) []
@@ -33,7 +33,7 @@ module _ (t : Session) where
   last-place p (suc count) =
       let here : p + 1 + count + 1 ≡ p + suc count + 1 = omega arith in
       ap (withRemaining (stateOf t (p + 1))) (last-place (p + 1) count)
-      ∙ in-front (stateOf t (p + 1)) (remainingFrom t (p + 1) count) _
+      ∙ kept-in-front (stateOf t (p + 1)) (remainingFrom t (p + 1) count) _
       ∙ ap (λ (n : ℕ). withRemaining (stateOf t (p + 1)) (remainingFrom t (p + 1) count) ++ withRemaining (stateOf t n) []) here
 
   few-remain : (p count : ℕ) → length (remainingFrom t p count) ≤ count
@@ -117,8 +117,8 @@ pub record Tabled (t : Session) (r : Table) : Type 0 where
   pub gears : r .«no_window» ≡ 16 → gearsIn r ≡ gearsOf t
   pub windows : r .«no_window» ≡ 16 → windowsIn r ≡ windowsOf t
 
-first : {A : Type 0} (filler : A) (part : Entry → A) (entries : List Entry) → take (length entries) (stored filler (map part entries)) ≡ map part entries
-first filler part entries = ap (λ (n : ℕ). take n (stored filler (map part entries))) (sym (length-map entries part)) ∙ taken filler (map part entries)
+front-of : {A : Type 0} (filler : A) (part : Entry → A) (entries : List Entry) → take (length entries) (stored filler (map part entries)) ≡ map part entries
+front-of filler part entries = ap (λ (n : ℕ). take n (stored filler (map part entries))) (sym (length-map entries part)) ∙ taken filler (map part entries)
 
 pub tabled : (t : Session) → Tabled t (tableOf t)
 unfolding tableOf entriesOf gearsOf windowsOf remaining
@@ -126,7 +126,7 @@ tabled t =
     record {
       no-window = refl;
       few = omega (arith, few-remain t 0 (lowestNoWindow t), no-window-most t);
-      counted = ap length (first emptyGear (λ e. e .gear) (entriesOf t)) ∙ length-map (entriesOf t) (λ e. e .gear);
-      gears = λ e. first emptyGear (λ e. e .gear) (entriesOf t) ∙ rw e;
-      windows = λ e. first emptyFour (λ e. e .window) (entriesOf t) ∙ rw e;
+      counted = ap length (front-of emptyGear (λ e. e .gear) (entriesOf t)) ∙ length-map (entriesOf t) (λ e. e .gear);
+      gears = λ e. front-of emptyGear (λ e. e .gear) (entriesOf t) ∙ rw e;
+      windows = λ e. front-of emptyFour (λ e. e .window) (entriesOf t) ∙ rw e;
     }
