@@ -105,7 +105,7 @@ fn better(best: Best, place: usize, x: Hundredths, a_ref: Hundredths) -> Best
 }
 
 // The place that rule 2 takes; `count` if it takes none.
-pub fn nearest_place(gears: [Gear; 16], count: usize, reference: Reference) -> usize
+fn nearest_place(gears: [Gear; 16], count: usize, reference: Reference) -> usize
     requires { ⌜ count ≤ 16 ⌝ }
     ensures { λ r. ⌜ r ≡ nearest (reference .«a_ref» .0) (take count gears) ⌝ }
 {

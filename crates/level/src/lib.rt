@@ -106,7 +106,7 @@ const CORRECTIONS: [Tenths; 6] = [
 ];
 
 // What is taken off for a difference d.
-pub fn correction(d: Tenths) -> Tenths
+fn correction(d: Tenths) -> Tenths
     requires { ⌜ 100 ≤ d .0 ⌝ }
     ensures { λ r. ⌜ r .0 ≡ correctionOf (d .0) ⌝ }
 {

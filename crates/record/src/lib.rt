@@ -47,7 +47,7 @@ impl Record {
 // ---- fields
 
 // Whether a byte is from `low` to `high`.
-pub fn byte_within(r: &[u8], at: usize, low: u8, high: u8) -> bool
+fn byte_within(r: &[u8], at: usize, low: u8, high: u8) -> bool
     requires { ⌜ at < length (now r) ⌝ }
     ensures { λ ok. ⌜ ok ≡ within low high (byte (now (r .entry)) at) ⌝ }
 {
@@ -56,7 +56,7 @@ pub fn byte_within(r: &[u8], at: usize, low: u8, high: u8) -> bool
 }
 
 // Whether a 16-bit number is from `low` to `high`.
-pub fn word_within(r: &[u8], at: usize, low: u16, high: u16) -> bool
+fn word_within(r: &[u8], at: usize, low: u16, high: u16) -> bool
     requires { ⌜ at + 2 ≤ length (now r) ⌝ }
     ensures { λ ok. ⌜ ok ≡ within low high (word (now (r .entry)) at) ⌝ }
 {
@@ -65,7 +65,7 @@ pub fn word_within(r: &[u8], at: usize, low: u16, high: u16) -> bool
 }
 
 // Whether the bytes from `at` to before `end` are zero. All are read, so that the loop has no branch in it.
-pub fn blank(r: &[u8], at: usize, end: usize) -> bool
+fn blank(r: &[u8], at: usize, end: usize) -> bool
     requires { ⌜ (at ≤ end) × (end ≤ length (now r)) ⌝ }
     ensures { λ ok. ⌜ ok ≡ zeros (now (r .entry)) at (end - at) ⌝ }
 {

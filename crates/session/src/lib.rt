@@ -93,7 +93,7 @@ fn by_window(sheet: &[u8], track: Track, gear: u8) -> State
 }
 
 // The state of a gear; `here` says whether it has an acceleration run.
-pub fn state_of(sheet: &[u8], track: Track, gear: u8, here: bool) -> State
+fn state_of(sheet: &[u8], track: Track, gear: u8, here: bool) -> State
     requires { ⌜ RunsGood (now sheet) ⌝ }
     requires { ⌜ (1000 ≤ track .path) × (track .path ≤ 4000) ⌝ }
     requires { ⌜ here ≡ hasAcceleration (now sheet) gear ⌝ }

@@ -61,7 +61,7 @@ fn most(a: Tenths, b: Tenths) -> Tenths
 const WIDEST: Tenths = Tenths(20);
 
 // Whether four levels span at most 2.0 dB.
-pub fn spans(a: Tenths, b: Tenths, c: Tenths, d: Tenths) -> bool
+fn spans(a: Tenths, b: Tenths, c: Tenths, d: Tenths) -> bool
     ensures { λ r. ⌜ r ≡ spanned (a .0) (b .0) (c .0) (d .0) ⌝ }
 {
     let high = most(most(a, b), most(c, d));
