@@ -23,6 +23,6 @@ spaced s (n ∷ ns) = spaced ((s ++ (32 ∷ [])) ++ decimalOf n) ns
 unfoldable pub lineWith : List ℕ → List ℕ → List ℕ
 lineWith word numbers = spaced word numbers ++ (10 ∷ [])
 
--- a buffer with a text at its front: the text, followed by the bytes that stood there
+-- a buffer with a text at its front: the text, and behind it the bytes that stood there
 unfoldable pub onto : List ℕ → List ℕ → List ℕ
 onto text b = text ++ drop (length text) b
