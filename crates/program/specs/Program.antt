@@ -1,0 +1,61 @@
+-- What the program's contracts cite: the system's answers, and the line of the bytes that were read.
+use mathlib.Core.Path.{_≡_}
+use mathlib.Core.Bool.{Bool, false, _&&_}
+use mathlib.Core.List.{List}
+use Prim.Native.Nat.{ℕ, _≤_}
+use lib.Dec.{eqb}
+use lib.IntN.{ℤ, pos, negsuc}
+use lib.Signed.{ltZ}
+use lib.ListN.{length, take, replicate}
+use Rattle.refusal.specs.declared.Refusal.the-variants.{WrongSize}
+use Rattle.refusal.specs.declared.Answer.the-variants.{Refused}
+use Rattle.evaluation.specs.Answer.{answerOf, bufferOf}
+use Rattle.line.specs.Line.{lineOf}
+use Rattle.program.specs.declared.Transfer.{Transfer}
+use Rattle.program.specs.declared.Transfer.the-variants.{Bytes, Failed}
+use Rattle.program.specs.declared.Outcome.{Outcome}
+use Rattle.program.specs.declared.Outcome.the-variants.{Printed, NotRead, NotWritten}
+
+-- a negative answer is a failure, any other the number of bytes that were moved
+unfoldable pub transferOf : ℤ → Transfer
+transferOf (pos n) = Bytes n
+transferOf (negsuc n) = Failed
+
+-- the error number of an interrupted call
+unfoldable pub isEINTR : ℤ → Bool
+isEINTR (pos n) = eqb n 4
+isEINTR (negsuc n) = false
+
+-- a negative answer with that error number
+unfoldable pub interruptedBy : ℤ → ℤ → Bool
+interruptedBy got error = ltZ got (pos 0) && isEINTR error
+
+-- no more bytes than there is room for
+abbrev pub Within : ℕ → Transfer → Type 0
+Within room (Bytes n) = n ≤ room
+Within room Failed = Unit {0}
+
+-- all the bytes that there are, or a failure
+abbrev pub Whole : ℕ → Transfer → Type 0
+Whole size (Bytes n) = n ≡ size
+Whole size Failed = Unit {0}
+
+-- the line of a sheet, evaluated with a result buffer of 32 zeros
+unfoldable pub lineOfSheet : List ℕ → List ℕ
+lineOfSheet s = lineOf (answerOf s 32) (bufferOf s (replicate 32 0))
+
+-- the line of a sheet stands at the start of the lent bytes
+abbrev pub LaidOut : List ℕ → List ℕ → Type 0
+LaidOut s line = take (length (lineOfSheet s)) line ≡ lineOfSheet s
+
+-- The first n of the lent bytes were read, and their line is laid out. An input that fills the room may go on; it is refused for its size.
+pub record Evaluated (sheet : List ℕ) (n : ℕ) (line : List ℕ) : Type 0 where
+  pub within : n ≤ length sheet
+  pub laid : LaidOut (take n sheet) line
+  pub full : n ≡ length sheet → answerOf (take n sheet) 32 ≡ Refused WrongSize
+
+-- A line is printed if as many bytes were written as the line of the bytes read has. If they were not read, no line is laid out.
+abbrev pub Ran : List ℕ → List ℕ → List ℕ → Outcome → Type 0
+Ran sheet before after (Printed n k) = Evaluated sheet n after × (k ≡ length (lineOfSheet (take n sheet)))
+Ran sheet before after (NotWritten n) = Evaluated sheet n after
+Ran sheet before after NotRead = after ≡ before
