@@ -12,8 +12,8 @@ fn print(text: &[u8]) {
     io::write_all(STDOUT_FILENO, text);
 }
 
-// Evaluates what can be read of a descriptor.
-fn evaluate(input: i32, output: i32) {
+// The job on two descriptors; prints what became of it where no line is printed.
+fn run(input: i32, output: i32) {
     let mut sheet = [0u8; program::ROOM];
     let mut line = [0u8; program::LINE];
     match program::run(input, output, &mut sheet, &mut line) {
@@ -26,7 +26,7 @@ fn evaluate(input: i32, output: i32) {
     }
 }
 
-fn evaluate_file(name: &[u8], output: i32) {
+fn run_file(name: &[u8], output: i32) {
     print(name);
     print(b" ");
     let fd = os::open_read(name);
@@ -34,7 +34,7 @@ fn evaluate_file(name: &[u8], output: i32) {
         os::fail(name);
         return;
     }
-    evaluate(fd, output);
+    run(fd, output);
     libc::close(fd);
 }
 
@@ -43,23 +43,23 @@ fn name_of(n: u8) -> [u8; 2] {
     [b'0' + n / 10, b'0' + n % 10]
 }
 
-fn evaluate_number(n: u8) {
+fn run_number(n: u8) {
     let name = name_of(n);
-    evaluate_file(&name, STDOUT_FILENO);
+    run_file(&name, STDOUT_FILENO);
 }
 
-fn evaluate_all() {
+fn run_all() {
     for n in 0..FILES {
-        evaluate_number(n);
+        run_number(n);
     }
 }
 
 fn main() {
-    evaluate_all();
+    run_all();
     print(b"directory ");
-    evaluate_file(b".", STDOUT_FILENO);
+    run_file(b".", STDOUT_FILENO);
     print(b"closed input ");
-    evaluate(CLOSED, STDOUT_FILENO);
+    run(CLOSED, STDOUT_FILENO);
     print(b"closed output ");
-    evaluate_file(b"25", CLOSED);
+    run_file(b"25", CLOSED);
 }

@@ -35,10 +35,10 @@ abbrev pub Within : ℕ → Transfer → Type 0
 Within room (Bytes n) = n ≤ room
 Within room Failed = Unit {0}
 
--- all the bytes that there are, or a failure
-abbrev pub Whole : ℕ → Transfer → Type 0
-Whole size (Bytes n) = n ≡ size
-Whole size Failed = Unit {0}
+-- so many bytes and no fewer, or a failure
+abbrev pub Exactly : ℕ → Transfer → Type 0
+Exactly size (Bytes n) = n ≡ size
+Exactly size Failed = Unit {0}
 
 -- the line of a sheet, evaluated with a result buffer of 32 zeros
 unfoldable pub lineOfSheet : List ℕ → List ℕ

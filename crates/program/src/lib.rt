@@ -5,7 +5,7 @@
 ghost use mathlib.Core.Path.{_≡_};
 ghost use Prim.Native.Nat.{_-_, _≤_};
 ghost use lib.ListN.{length, take};
-ghost use Rattle.program.specs.Program.{transferOf, interruptedBy, Within, Whole, lineOfSheet, LaidOut, Ran};
+ghost use Rattle.program.specs.Program.{transferOf, interruptedBy, Within, Exactly, lineOfSheet, LaidOut, Ran};
 
 // Room for a sheet: one byte more than the longest, so that a longer input is refused for its size.
 pub const ROOM: usize = 32769;
@@ -75,7 +75,7 @@ fn read_sheet(fd: i32, sheet: &mut [u8]) -> Transfer
     while at < sheet.len() {
         let piece = read_on(fd, sheet, at);
         let Transfer::Bytes(n) = piece else {
-            return Transfer::Failed;
+            return piece;
         };
         if n == 0 {
             break;
@@ -100,13 +100,13 @@ fn write_piece(fd: i32, piece: &[u8]) -> Transfer
 
 // Writes all the bytes, piece by piece; a write that fails or takes none is a failure.
 fn write_whole(fd: i32, bytes: &[u8]) -> Transfer
-    ensures { λ r. ⌜ Whole (length (now (bytes .entry))) r ⌝ }
+    ensures { λ r. ⌜ Exactly (length (now (bytes .entry))) r ⌝ }
 {
     let mut at = 0;
     while at < bytes.len() {
         let piece = write_piece(fd, &bytes[at..]);
         let Transfer::Bytes(n) = piece else {
-            return Transfer::Failed;
+            return piece;
         };
         if n == 0 {
             return Transfer::Failed;
@@ -129,7 +129,7 @@ fn lay_out(sheet: &[u8], line: &mut [u8; LINE]) -> usize
 // Evaluates a sheet, lays out its line and writes it.
 pub fn print_line(sheet: &[u8], line: &mut [u8; LINE], output: i32) -> Transfer
     ensures laid { λ _. ⌜ LaidOut (now (sheet .entry)) (now (line .exit)) ⌝ }
-    ensures whole { λ r. ⌜ Whole (length (lineOfSheet (now (sheet .entry)))) r ⌝ }
+    ensures exactly { λ r. ⌜ Exactly (length (lineOfSheet (now (sheet .entry)))) r ⌝ }
 {
     let n = lay_out(sheet, line);
     let laid: &[u8] = line;

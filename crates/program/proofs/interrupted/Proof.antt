@@ -1,9 +1,7 @@
 -- `program::interrupted` meets its contract: the machine compares the bits of the error number. Assumes nothing.
 use mathlib.Core.Path.{_≡_, _∙_, sym, ap}
 use mathlib.Core.Bool.{Bool, _&&_}
-use lib.IntN.{pos}
-use lib.Signed.{ltZ}
-use mir.Syntax.{w32, w64}
+use mir.Syntax.{w64}
 use mir.Val.{toZ, ofZ}
 use mir.ValLaws.{toZ-ofZ}
 use Rattle.program.specs.Program.{interruptedBy, isEINTR}

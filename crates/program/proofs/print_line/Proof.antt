@@ -5,7 +5,7 @@ use Prim.Native.Nat.{ℕ}
 use native.Mathlib.Omega.{arith}
 use lib.ListN.{length, take}
 use lib.Seq.{length-take-le}
-use Rattle.program.specs.Program.{Whole, lineOfSheet}
+use Rattle.program.specs.Program.{Exactly, lineOfSheet}
 use borrow.Author.Needs.{needs}
 use Rattle.program.proofs.print_line.Statement.{statement}
 use Rattle.program.proofs.print_line.Tie as tie
@@ -16,7 +16,7 @@ lay-out-requires c κs = search needs
 slice-aggregate-write-whole : tie.Need-slice-aggregate-write-whole
 slice-aggregate-write-whole c =
     let l = c .before .before .before .lay-out in
-    sym (length-take-le (l .result) (l .last .1 .0) (omega (arith, l .ensures .0, c .before .laid2 .given)))
+    sym (length-take-le _ (l .last .1 .0) (omega (arith, l .ensures .0, c .before .laid2 .given)))
 
 write-whole-requires : tie.Need-write-whole-requires
 write-whole-requires c κs = search needs
@@ -26,7 +26,7 @@ returns c =
     let l = c .before .before .before .before .lay-out in
     let sheet = c .before .before .before .before .before .before .before .args .sheet .now in
     let n : l .result ≡ length (lineOfSheet sheet) = sym (length-take-le (l .result) (l .last .1 .0) (omega (arith, l .ensures .0, c .before .before .laid2 .given))) ∙ ap length (l .ensures .1) in
-    (subst (λ (n : ℕ). take n (l .last .1 .0) ≡ lineOfSheet sheet) n (l .ensures .1), subst (λ (xs : List ℕ). Whole (length xs) (c .write-whole .result)) (l .ensures .1) (c .write-whole .ensures))
+    (subst (λ (n : ℕ). take n (l .last .1 .0) ≡ lineOfSheet sheet) n (l .ensures .1), subst (λ (xs : List ℕ). Exactly (length xs) (c .write-whole .result)) (l .ensures .1) (c .write-whole .ensures))
 
 pub print-line-spec : {M : Type 1} → statement M
 print-line-spec =

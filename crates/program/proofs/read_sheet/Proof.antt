@@ -30,7 +30,7 @@ same-length : tie.Need-same-length Inv-loop μ-loop
 same-length c = search needs
 
 returns : tie.Need-returns Inv-loop μ-loop
-returns c = search needs
+returns c = rw (c .enum-told .given .1) tt
 
 add-at : tie.Need-add-at Inv-loop μ-loop
 add-at c = omega (arith, rw (c .before .before .piece .given .1) at (c .before .before .before .before .before .before .read-on .ensures .0))

@@ -1,7 +1,6 @@
 -- `program::run` meets its contract: what is evaluated are the bytes that were read. Assumes nothing.
-use mathlib.Core.Path.{_≡_, sym}
+use mathlib.Core.Path.{sym}
 use native.Mathlib.Omega.{arith}
-use lib.ListN.{length}
 use lib.Seq.{length-take-le}
 use Rattle.program.proofs.Room.{evaluated}
 use borrow.Author.Needs.{needs}

@@ -1,15 +1,11 @@
 -- `program::transfer_of` meets its contract. Assumes nothing.
-use mathlib.Core.Path.{sym, subst, _∙_, ap}
-use lib.IntN.{ℤ, pos, natAbs}
-use lib.Signed.{nonNeg, ltZ, natAbs-le}
-use lib.Dec.{T, lit<}
+use lib.Signed.{natAbs-le}
+use lib.Dec.{lit<}
 use mathlib.Core.Path.{_≡_}
-use mathlib.Core.Bool.{Bool, true, false}
 use native.Mathlib.Nat.{lt-of-le-of-lt}
 use mir.Syntax.{w64}
-use mir.Val.{Fits, toZ, ofZ}
+use mir.Val.{toZ, ofZ}
 use mir.ValLaws.{toZ-ofZ}
-use borrow.Author.Needs.{needs}
 use Rattle.program.proofs.Answers.{not-below, negative-fails, others-count}
 use Rattle.program.proofs.transfer_of.Statement.{statement}
 use Rattle.program.proofs.transfer_of.Tie as tie

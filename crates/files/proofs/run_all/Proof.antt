@@ -1,8 +1,8 @@
--- `files::evaluate_all` is safe and ends. The measure is the number of files that are left. Assumes nothing.
+-- `files::run_all` is safe and ends. The measure is the number of files that are left. Assumes nothing.
 use Prim.Native.Nat.{_-_, _≤_}
 use native.Mathlib.Omega.{arith}
-use Rattle.files.proofs.evaluate_all.Statement.{statement}
-use Rattle.files.proofs.evaluate_all.Tie as tie
+use Rattle.files.proofs.run_all.Statement.{statement}
+use Rattle.files.proofs.run_all.Tie as tie
 
 abbrev Inv-loop : tie.InvT-loop
 Inv-loop n₀ n = n ≤ 43
@@ -13,8 +13,8 @@ abbrev μ-loop : tie.MeasureT-loop
 loop-holds : tie.Need-loop-holds Inv-loop μ-loop
 loop-holds c = omega arith
 
-evaluate-number-requires : tie.Need-evaluate-number-requires Inv-loop μ-loop
-evaluate-number-requires c κs = tt
+run-number-requires : tie.Need-run-number-requires Inv-loop μ-loop
+run-number-requires c κs = tt
 
 add-n : tie.Need-add-n Inv-loop μ-loop
 add-n c = omega arith
@@ -28,14 +28,14 @@ loop-again c = omega arith
 returns : tie.Need-returns Inv-loop μ-loop
 returns c = tt
 
-pub evaluate-all-spec : {M : Type 1} → statement M
-evaluate-all-spec =
+pub run-all-spec : {M : Type 1} → statement M
+run-all-spec =
     tie.close
     (tie.spec
     Inv-loop
     μ-loop
     loop-holds
-    evaluate-number-requires
+    run-number-requires
     add-n
     loop-less
     loop-again
