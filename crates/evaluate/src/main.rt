@@ -10,10 +10,11 @@ fn evaluate_input() {
     match program::run(STDIN_FILENO, STDOUT_FILENO, &mut sheet, &mut line) {
         Outcome::Printed {
             read: _,
+            last: _,
             written: _,
         } => {}
         Outcome::NotRead => os::fail(b"read"),
-        Outcome::NotWritten { read: _ } => os::fail(b"write"),
+        Outcome::NotWritten { read: _, last: _ } => os::fail(b"write"),
     }
 }
 

@@ -19,10 +19,11 @@ fn run(input: i32, output: i32) {
     match program::run(input, output, &mut sheet, &mut line) {
         Outcome::Printed {
             read: _,
+            last: _,
             written: _,
         } => {}
         Outcome::NotRead => print(b"NOT READ\n"),
-        Outcome::NotWritten { read: _ } => print(b"NOT WRITTEN\n"),
+        Outcome::NotWritten { read: _, last: _ } => print(b"NOT WRITTEN\n"),
     }
 }
 

@@ -2,7 +2,7 @@
 use mathlib.Core.Path.{_≡_}
 use mathlib.Core.Bool.{Bool, false, _&&_}
 use mathlib.Core.List.{List}
-use Prim.Native.Nat.{ℕ, _≤_}
+use Prim.Native.Nat.{ℕ, _≤_, _<_}
 use lib.Dec.{eqb}
 use lib.IntN.{ℤ, pos, negsuc}
 use lib.Signed.{ltZ}
@@ -13,6 +13,9 @@ use Rattle.evaluation.specs.Answer.{answerOf, bufferOf}
 use Rattle.line.specs.Line.{lineOf}
 use Rattle.program.specs.declared.Transfer.{Transfer}
 use Rattle.program.specs.declared.Transfer.the-variants.{Bytes, Failed}
+use Rattle.program.specs.declared.Input.{Input}
+use Rattle.program.specs.declared.Input.the-variants as input
+use Rattle.program.specs.declared.Input.the-variants.{Read}
 use Rattle.program.specs.declared.Outcome.{Outcome}
 use Rattle.program.specs.declared.Outcome.the-variants.{Printed, NotRead, NotWritten}
 
@@ -40,6 +43,11 @@ abbrev pub Exactly : ℕ → Transfer → Type 0
 Exactly size (Bytes n) = n ≡ size
 Exactly size Failed = Unit {0}
 
+-- no more bytes than there is room for, and where there is room left, the last read moved none; or a failure
+abbrev pub ToTheEnd : ℕ → Input → Type 0
+ToTheEnd room (Read n last) = (n ≤ room) × (n < room → last ≡ 0)
+ToTheEnd room input.Failed = Unit {0}
+
 -- the line of a sheet, evaluated with a result buffer of 32 zeros
 unfoldable pub lineOfSheet : List ℕ → List ℕ
 lineOfSheet s = lineOf (answerOf s 32) (bufferOf s (replicate 32 0))
@@ -48,14 +56,16 @@ lineOfSheet s = lineOf (answerOf s 32) (bufferOf s (replicate 32 0))
 abbrev pub LaidOut : List ℕ → List ℕ → Type 0
 LaidOut s line = take (length (lineOfSheet s)) line ≡ lineOfSheet s
 
--- The first n of the lent bytes were read, and their line is laid out. An input that fills the room may go on; it is refused for its size.
-pub record Evaluated (sheet : List ℕ) (n : ℕ) (line : List ℕ) : Type 0 where
+-- The first n of the lent bytes were read to the end of the input, which is where a read moves no byte, and their line is laid out. An input that
+-- fills the room may go on; it is refused for its size.
+pub record Evaluated (sheet : List ℕ) (n last : ℕ) (line : List ℕ) : Type 0 where
   pub within : n ≤ length sheet
+  pub ended : n < length sheet → last ≡ 0
   pub laid : LaidOut (take n sheet) line
   pub full : n ≡ length sheet → answerOf (take n sheet) 32 ≡ Refused WrongSize
 
 -- A line is printed if as many bytes were written as the line of the bytes read has. If they were not read, no line is laid out.
 abbrev pub Ran : List ℕ → List ℕ → List ℕ → Outcome → Type 0
-Ran sheet before after (Printed n k) = Evaluated sheet n after × (k ≡ length (lineOfSheet (take n sheet)))
-Ran sheet before after (NotWritten n) = Evaluated sheet n after
+Ran sheet before after (Printed n last k) = Evaluated sheet n last after × (k ≡ length (lineOfSheet (take n sheet)))
+Ran sheet before after (NotWritten n last) = Evaluated sheet n last after
 Ran sheet before after NotRead = after ≡ before

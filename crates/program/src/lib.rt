@@ -5,7 +5,7 @@
 ghost use mathlib.Core.Path.{_≡_};
 ghost use Prim.Native.Nat.{_-_, _≤_};
 ghost use lib.ListN.{length, take};
-ghost use Rattle.program.specs.Program.{transferOf, interruptedBy, Within, Exactly, lineOfSheet, LaidOut, Ran};
+ghost use Rattle.program.specs.Program.{transferOf, interruptedBy, Within, Exactly, ToTheEnd, lineOfSheet, LaidOut, Ran};
 
 // Room for a sheet: one byte more than the longest, so that a longer input is refused for its size.
 pub const ROOM: usize = 32769;
@@ -19,11 +19,24 @@ pub enum Transfer {
     Failed,
 }
 
-// What became of the job, with the numbers of bytes that were read and written.
+// What reading to the end came to: how many bytes were read in all and by the last read, or that a read failed.
+pub enum Input {
+    Read { read: usize, last: usize },
+    Failed,
+}
+
+// What became of the job: how many bytes were read, in all and by the last read, and written.
 pub enum Outcome {
-    Printed { read: usize, written: usize },
+    Printed {
+        read: usize,
+        last: usize,
+        written: usize,
+    },
     NotRead,
-    NotWritten { read: usize },
+    NotWritten {
+        read: usize,
+        last: usize,
+    },
 }
 
 // What the answer of read or write means.
@@ -67,22 +80,25 @@ fn read_on(fd: i32, sheet: &mut [u8], at: usize) -> Transfer
     read_piece(fd, &mut sheet[at..])
 }
 
-// Reads until the input ends or the sheet is full: a read of no bytes is the end, one that fails is a failure.
-fn read_sheet(fd: i32, sheet: &mut [u8]) -> Transfer
-    ensures { λ r. ⌜ Within (length (now (sheet .entry))) r ⌝ }
+// Reads until the sheet is full or the input ends: a read of no bytes is the end, one that fails is a failure.
+fn read_sheet(fd: i32, sheet: &mut [u8]) -> Input
+    ensures { λ r. ⌜ ToTheEnd (length (now (sheet .entry))) r ⌝ }
 {
     let mut at = 0;
+    // No read yet: only a read at the end of the input makes it 0.
+    let mut last = 1;
     while at < sheet.len() {
         let piece = read_on(fd, sheet, at);
         let Transfer::Bytes(n) = piece else {
-            return piece;
+            return Input::Failed;
         };
-        if n == 0 {
+        last = n;
+        if last == 0 {
             break;
         }
         at += n;
     }
-    Transfer::Bytes(at)
+    Input::Read { read: at, last }
 }
 
 // Writes once, and again as long as a signal interrupts it; the turns are counted down as in `read_piece`.
@@ -141,13 +157,17 @@ pub fn run(input: i32, output: i32, sheet: &mut [u8; ROOM], line: &mut [u8; LINE
     ensures { λ r. ⌜ Ran (now (sheet .exit)) (now (line .entry)) (now (line .exit)) r ⌝ }
 {
     let got = read_sheet(input, sheet);
-    let Transfer::Bytes(read) = got else {
+    let Input::Read { read, last } = got else {
         return Outcome::NotRead;
     };
     let bytes: &[u8] = sheet;
     let put = print_line(&bytes[..read], line, output);
     let Transfer::Bytes(written) = put else {
-        return Outcome::NotWritten { read };
+        return Outcome::NotWritten { read, last };
     };
-    Outcome::Printed { read, written }
+    Outcome::Printed {
+        read,
+        last,
+        written,
+    }
 }
