@@ -309,3 +309,45 @@ def half_runs(gear, a, level):
     levels = (level - 1, level, level - 1, level)
     return ([run(ACCELERATION_RUN, gear, tenths(one), tenths(one), start, end) for one in levels]
             + [run(CONSTANT_RUN, gear, tenths(820), tenths(820))] * 4)
+
+
+# What the other gears do not change.
+
+def rising_gears(random):
+    """Refusal 8 at the first neighbours that do not fall, where later ones do not fall either."""
+    for accelerations in ((100, 120, 140), (100, 100, 100), (200, 100, 120, 140), (150, 150, 120, 120), (90, 100, 95, 96),
+                          tuple(range(100, 260, 10))):
+        for step in (1, 3):
+            gears = [Gear(1 + step * n, a, 700, 650) for n, a in enumerate(accelerations)]
+            if gears[-1].gear <= 16:
+                yield sheet_of(random, {}, gears, plain=True)
+                yield sheet_of(random, {"rated_speed": 5000}, [Gear(gears[0].gear, 300, 740, None, 5001)] + gears[1:], plain=True)
+
+
+def constant_speed_always_needed(random):
+    """Refusal 10 where the level would not count: kp 0, k 1.00 without gear j, k 0.00 without gear i; and in rules 4 and 5."""
+    for a in (80, 105, 106):  # a_urban is 1.06
+        yield sheet_of(random, {}, [Gear(3, a, 700)], plain=True)
+        yield sheet_of(random, {}, [Gear(5, a, 700)], plain=True)
+    for q, a_i, a_j in ((6000, 301, 100), (6000, 301, 160), (5917, 301, 60),  # k is 1.00
+                        (250, 1500, 76), (260, 3000, 79), (400, 6000, 91),  # k is 0.00
+                        (667, 320, 100), (1000, 310, 90), (250, 400, 70), (667, 200, 100), (249, 200, 60)):
+        for lacking in ((0,), (1,), (0, 1)):
+            gears = [Gear(3, a_i, 740, 660), Gear(4, a_j, 700, 640)]
+            gears = [gear._replace(C=None) if at in lacking else gear for at, gear in enumerate(gears)]
+            yield sheet_of(random, dict(power=q, mass=1000, length=100, start_line=1), gears, plain=True)
+    for q, a_i, a_j in ((667, 320, 120), (1000, 310, 150), (1500, 305, 170)):  # rule 4
+        yield sheet_of(random, dict(power=q, mass=1000), [Gear(3, a_i, 740, 660), Gear(4, a_j, 700)], plain=True)
+
+
+def negative_halves_of_rule_5(random):
+    """Rule 5 with k × (L(i) − L(j)) half a tenth past a whole one and below zero, for W and for C."""
+    for q in (250, 400, 667, 1000, 1500, 2500):
+        a_urban, R = references(q)
+        pairs = [(a_i, a_j) for a_i in range(301, 420) for a_j in range(a_urban - 20, a_urban) if k_of(R, a_i, a_j) % 50]
+        for _ in range(3):
+            a_i, a_j = random.pick(pairs)
+            gaps = [gap for gap in range(-60, 0) if k_of(R, a_i, a_j) * gap % 100 == 50]
+            if gaps:
+                gap = random.pick(gaps)
+                yield sheet_of(random, dict(power=q, mass=1000), [Gear(3, a_i, 720 + gap, 660 + gap), Gear(4, a_j, 720, 660)])

@@ -97,5 +97,9 @@ GROUPS = (
     of_gears.equal_levels, of_gears.slow_and_quiet, of_gears.limits, of_gears.exactly_as_far, of_windows.differences,
     of_windows.rounded_differences, of_windows.spans_after_correction, of_windows.late_windows,
     of_windows.shuffled_runs, of_windows.acceleration_halves, of_windows.engine_speeds, of_windows.floats_in_a_tenth,
-    sixteen_gears, longest, cut, damaged, random_sessions,
+    sixteen_gears, longest, cut, damaged, random_sessions, of_sheets.sizes_before_kinds, of_sheets.two_causes,
+    of_sheets.faults_beside_a_result, of_sheets.pmr_rounded, of_sheets.pmr_below_halves, of_windows.first_window_at,
+    of_windows.three_runs_of_a_gear, of_windows.sixteen_without_one, of_windows.engine_speed_of_one_run,
+    of_windows.near_the_background_at_constant_speed, of_windows.accelerations_below_halves, of_gears.rising_gears,
+    of_gears.constant_speed_always_needed, of_gears.negative_halves_of_rule_5,
 )

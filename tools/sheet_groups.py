@@ -4,7 +4,7 @@ import sheets
 from make import (Gear, changed, float_step, gear_runs, loud_copy, one_gear_sheet, short_runs, short_sheet, whole_with_runs,
                   with_bytes, with_number)
 from reckon import ABSENT, ACCELERATION_RUN, CONSTANT_RUN, LEVEL, OVERLOAD, records_of
-from sheets import put, run, sheet, tenths, vehicle
+from sheets import run, sheet, tenths, vehicle
 
 
 # Refusals 2 to 4.
@@ -158,3 +158,115 @@ def accepted_edges(random):
     for level in (200, 1400):
         low = sheet(vehicle(background=0), [loud_copy(one, level) for one in records_of(whole)[1:-1]], 0)
         yield low
+
+
+# Two causes at once, and faults beside runs that would give a result.
+
+def sizes_before_kinds(random):
+    """Refusal 2 although the first byte is 9 or the run number is wrong: no whole records, or 1,025 of them."""
+    for length in (1, 31, 33, 40, 63, 65, 95):
+        yield (sheets.closing(0) * 3)[:length]
+    short, long = short_sheet(), sheet(vehicle(), short_runs()[:1] * 1023)
+    for extra in (1, 31):
+        yield changed(short, 0, 9) + bytes(extra)
+        yield with_number(short, 3, 2, 7) + bytes(extra)
+    for value in (9, 0):
+        yield changed(long, 0, value)
+    for count in (0, 1022):
+        yield with_number(long, 1024, 2, count)
+
+
+def two_causes(random):
+    """Two causes of the table of refusals, each in two ways: the earlier one is given."""
+    for first in range(2, 11):
+        for second in range(first + 1, 11):
+            for way in range(4):
+                yield session_with(random, {first: way // 2, second: way % 2})
+
+
+def session_with(random, causes):
+    """A sheet to which these causes apply, each in the way 0 or 1; PMR is 66.7 and R 1.49 but for cause 6."""
+    car = (dict(power=10, mass=5000), dict(power=20000, mass=300))[causes[6]] if 6 in causes else {}
+    whole = sheet(vehicle(rated_speed=5000, **car), runs_with(random, causes))
+    last = len(whole) // 32 - 1
+    if 5 in causes:
+        whole = changed(whole, (63, len(whole) - 1)[causes[5]], 1)
+    if 4 in causes:
+        whole = (changed(whole, 32 * last, 8), with_number(whole, last, 2, last))[causes[4]]
+    if 3 in causes:
+        whole = changed(whole, 0, (9, 2)[causes[3]])
+    if 2 in causes:
+        whole = (whole + bytes(1), whole[:-1])[causes[2]]
+    return whole
+
+
+def runs_with(random, causes):
+    """Runs to which causes 7 to 10 apply: gears 2 and 4, and for the second way of cause 7 three runs of gear 6."""
+    below = causes.get(9) == 1
+    first, second = (20, 10) if below else (200, 100)
+    if 8 in causes:
+        second = first + (0, 30)[causes[8]]
+    engine = 5001 if causes.get(9) == 0 and 8 not in causes else 5000
+    gears = [Gear(2, first, 720, 650, engine), Gear(4, second, 700, 640, engine)]
+    runs = gear_runs(random, {}, gears, plain=True)
+    if 10 in causes:
+        constant = [one for one in runs if one[0] == CONSTANT_RUN]
+        runs = [one for one in runs if one[0] == ACCELERATION_RUN] + (constant[:3] + constant[5:]) * causes[10]
+    if 7 in causes:
+        runs = (without_acceleration(runs), runs + runs_of_gear_6(random))[causes[7]]
+    return runs
+
+
+def without_acceleration(runs):
+    """The constant-speed runs, or one where there is none."""
+    return [one for one in runs if one[0] == CONSTANT_RUN] or short_runs()[1:]
+
+
+def runs_of_gear_6(random):
+    return gear_runs(random, {}, [Gear(6, 60, 690)], plain=True)[:3]
+
+
+ZERO = bytes(4)
+LOUD, TOO_LOUD, TOO_QUIET = tenths(700), float_step(tenths(1400), 1), float_step(tenths(200), -1)
+
+# Faults of a run record, by what stands at a place.
+RUN_FAULTS = (
+    (1, b"\x00"), (1, b"\x11"), (2, b"\x02"), (3, b"\x03"), (4, b"\x03"), (3, b"\xff"), (5, b"\x01"), (7, b"\x80"), (22, b"\x01"),
+    (31, b"\x01"), (8, TOO_LOUD), (12, TOO_LOUD), (8, TOO_QUIET), (12, TOO_QUIET), (16, b"\x09\x00\x09\x00"), (16, b"\xdd\x05\xdd\x05"),
+    (18, b"\xdd\x05"), (20, b"\x21\x4e"),
+    (3, b"\x00\x01\x00\x00\x00" + LOUD), (4, b"\x00"),  # absent with a level
+    *((3, bytes((kind, 1, 0, 0, 0)) + ZERO) for kind in (1, 2, 3, 255)),  # zero bytes on the left without being absent
+    *((3, bytes((1, kind, 0, 0, 0)) + LOUD + ZERO) for kind in (1, 2, 3, 255)),
+    (3, bytes((3, 3, 0, 0, 0)) + ZERO + ZERO),
+    (16, b"\xf4\x01\xf3\x01"),  # slower at BB': a fault of acceleration runs alone
+)
+
+
+def faults_beside_a_result(random):
+    """Refusal 5: each fault in a run that the result does not need, struck or not, of either kind, at any place."""
+    runs = records_of(one_gear_sheet(random))[1:-1]
+    for kind in (ACCELERATION_RUN, CONSTANT_RUN):
+        for struck in (0, 1):
+            stray = run(kind, 3, LOUD, LOUD, 450, 520, struck=struck)
+            for at, part in RUN_FAULTS:
+                place = random.pick((0, 4, 8))
+                yield sheet(vehicle(), runs[:place] + [stray[:at] + part + stray[at + len(part):]] + runs[place:])
+
+
+# PMR near its edges.
+
+def pmr_rounded(random):
+    """Exact PMRs outside 5.0 to 600.0 or below 25.0 that rounding brings in, beside those that it does not."""
+    for power, mass in ((18001, 3000), (14401, 2400), (19999, 3333), (18002, 3000), (19802, 3300), (149, 3000),
+                        (199, 4000), (148, 3000), (197, 4000), (749, 3000), (1249, 5000), (748, 3000)):
+        yield one_gear_sheet(random, power=power, mass=mass)
+
+
+def pmr_below_halves(random):
+    """PMRs 1/(2m) of a tenth below a half, so near that a 32-bit float has the half; and as far above one."""
+    yield one_gear_sheet(random, power=8656, mass=2049)
+    for mass in range(2051, 3300, 59):
+        if mass % 2 and mass % 5:
+            for beside in (-1, 1):
+                power = pow(2000, -1, mass) * beside % mass + random.between(4, 5) * mass
+                yield one_gear_sheet(random, power=power, mass=mass)

@@ -1,7 +1,9 @@
 """Groups of the corpus about levels, windows and accelerations: refusal 7."""
 
+from itertools import islice
+
 import sheets
-from make import (QUIET_PMRS, USUAL_PMRS, Gear, acceleration_runs, car_of, constant_runs, distance_of, float_at_edge, float_step,
+from make import (QUIET_PMRS, USUAL_PMRS, Gear, acceleration_runs, car_of, constant_runs, float_at_edge, float_step,
                   gear_runs, interleaved, loud_copy, one_gear_sheet, spoiled)
 from reckon import ABSENT, ACCELERATION_RUN, CONSTANT_RUN, records_of
 from sheets import put, run, sheet, tenths, vehicle
@@ -169,3 +171,87 @@ def floats_in_a_tenth(random):
                 step = random.pick((random.between(-6000, 6000), random.between(-3, 3)))
                 whole[32 * record + side:32 * record + side + 4] = float_step(base, step)
         yield bytes(whole)
+
+
+# Each place, each gear, each side.
+
+def swinging(one, count):
+    """So many copies of a run, no two neighbours within 2.0 dB, for a window from 72.0 on behind them."""
+    return [loud_copy(one, 690 - 30 * (at % 2)) for at in reversed(range(count))]
+
+
+def first_window_at(random):
+    """The first window at each place from 1 to 40 and at some beyond, of acceleration and of constant speed."""
+    for place in (*range(1, 41), 64, 128, 255, 256, 257):
+        runs = records_of(one_gear_sheet(random, W=720, C=720))[1:-1]
+        acceleration, constant = runs[:4], runs[4:]
+        if place <= 40 or place % 2 == 0:
+            yield sheet(vehicle(), swinging(runs[0], place - 1) + runs)
+        if place <= 40 or place % 2:
+            yield sheet(vehicle(), acceleration + swinging(runs[4], place - 1) + constant)
+
+
+def three_runs_of_a_gear(random):
+    """For each gear, three valid runs of it beside windows of others: refusal 7 or, at constant speed, refusal 10."""
+    for gear in range(1, 17):
+        others = [Gear(other, 320 - 15 * other, 700, None) for other in (gear - 1, gear + 1) if 1 <= other <= 16]
+        runs = gear_runs(random, {}, others + [Gear(gear, 320 - 15 * gear, 700, 650)], plain=True)
+        lacking = [at for at, one in enumerate(runs) if one[:2] == bytes((ACCELERATION_RUN, gear))][random.below(4)]
+        yield sheet(vehicle(), runs[:lacking] + runs[lacking + 1:])
+        alone = gear_runs(random, {}, [Gear(gear, 149, 700, 650)], plain=True)
+        yield sheet(vehicle(), alone[:3] + alone[4:])
+        yield sheet(vehicle(), alone[:7])
+
+
+def sixteen_without_one(random):
+    """Windows of all gears but one or two: the lower of these is named."""
+    for gear in range(1, 17):
+        runs = gear_runs(random, {}, [Gear(one, 320 - 15 * one, 700) for one in range(1, 17)], plain=True)
+        short = {4 * (gear - 1), 4 * random.between(gear - 1, 15)}
+        yield sheet(vehicle(), [one for at, one in enumerate(runs) if at not in short])
+
+
+def engine_speed_of_one_run(random):
+    """Only the first, second, third or fourth run of a window above S: the gear is dropped; a run beside it is not asked."""
+    for at in range(6):
+        for speed in (5001, 20000):
+            high = [Gear(2, 200, 720, 650), Gear(3, 100, 700, 640)]
+            runs = gear_runs(random, {}, high, plain=True)
+            runs = [loud_copy(runs[0], 690)] + runs[:4] + [loud_copy(runs[0], 750)] + runs[4:]
+            record = bytearray(runs[at])
+            put(record, 20, speed)
+            runs[at] = bytes(record)
+            yield sheet(vehicle(rated_speed=5000), runs)
+            yield sheet(vehicle(rated_speed=5000), runs[:10])
+
+
+def near_the_background_at_constant_speed(random):
+    """Constant-speed runs with d 9.9 on the left or on the right are not valid; with 10.0 they are."""
+    far = run(CONSTANT_RUN, 3, tenths(610), tenths(610))
+    for d in (99, 100):
+        for left, right in ((d, 110), (110, d), (d, d)):
+            near = run(CONSTANT_RUN, 3, tenths(500 + left), tenths(500 + right))
+            for constant in ([near, far, far, far], [far, far, far, near], [near] * 4):
+                yield sheet(vehicle(background=500), gear_runs(random, {}, [Gear(3, 149, 700)], plain=True) + constant)
+
+
+def accelerations_below_halves(random):
+    """Run accelerations so little below a half that a 32-bit float has the half."""
+    yield below_half_sheet(random, 105, 1003, 1152)
+    for length in range(105, 2000, 131):
+        lowest = random.between(400, 800)
+        found = ((start, end) for start in range(lowest, 1300) for end in range(start + 200, 1501)
+                 if is_just_below_half(end * end - start * start, 2000 + length))
+        for start, end in islice(found, 1):
+            yield below_half_sheet(random, length, start, end)
+
+
+def is_just_below_half(squares, distance):
+    """Whether 625 × squares / (162 × distance) lies below a half by less than 1/30,000."""
+    missing = 162 * distance - 1250 * squares % (324 * distance)
+    return 0 < 30000 * missing < 324 * distance
+
+
+def below_half_sheet(random, length, start, end):
+    runs = [run(ACCELERATION_RUN, 3, tenths(700), tenths(700), start, end)] * 4
+    return sheet(vehicle(length=length), runs + constant_runs(random, 3, 650, plain=True))
