@@ -351,3 +351,54 @@ def negative_halves_of_rule_5(random):
             if gaps:
                 gap = random.pick(gaps)
                 yield sheet_of(random, dict(power=q, mass=1000), [Gear(3, a_i, 720 + gap, 660 + gap), Gear(4, a_j, 720, 660)])
+
+
+def nearest_by_hundredths(random):
+    """Rule 2 takes the gear below R, one hundredth nearer than the one above, though that one is nearer by its own part."""
+    for R in (260, 270, 280, 285):
+        q = next(q for q in range(CONSTANT_SPEED_PMR, 6001) if a_ref_of(q) == R)
+        gears = [Gear(3, R + R // 20, 720, 650), Gear(4, R - R // 20 + 1, 700, 640)]
+        yield sheet_of(random, car_of(random, q), gears, plain=True)
+
+
+def sixteenth_gear(random):
+    """Sixteen gears remain: the pair is 15 and 16, or 16 alone, or 16 does not fall."""
+    for q in (667, 1000):
+        R = a_ref_of(q)
+        last = first_above(R) + 3
+        gears = [Gear(gear, last + 5 * (15 - gear), 700, 650 if gear > 14 else None) for gear in range(1, 16)]
+        for a in (first_below(R) - 4, R, last):
+            yield sheet_of(random, dict(power=q, mass=1000), gears + [Gear(16, a, 690, 640)], plain=True)
+
+
+def equal_after_rounding(random):
+    """Weighed levels that differ, W below C, and are equal once rounded: kp is not 1."""
+    for a_i, a_j in ((200, 100), (210, 105), (240, 120)):  # R is 1.49
+        k = k_of(149, a_i, a_j)
+        gap = next(gap for gap in range(1, 100) if 0 < k * gap % 100 < 50)
+        for C_j in (640, 655, 660):
+            W = C_j + k * gap // 100
+            yield sheet_of(random, {}, [Gear(3, a_i, W, C_j + gap), Gear(4, a_j, W, C_j)], plain=True)
+
+
+def pair_with_k(k):
+    """PMR 100.0 and a pair of accelerations of rule 3 with this k."""
+    R = a_ref_of(1000)
+    return next((a_i, a_j) for a_i in range(first_above(R), 301) for a_j in range(first_below(R) + 1) if k_of(R, a_i, a_j) == k)
+
+
+def weighed_by_floats(random):
+    """Weighed levels on a half, of gears so far apart that 32-bit or 64-bit floats miss it."""
+    for L_i, L_j, k in ((750, 200, 53), (275, 900, 66), (225, 900, 66), (225, 1000, 66), (250, 800, 81), (350, 900, 81),
+                        (250, 1000, 67), (1350, 200, 69)):
+        a_i, a_j = pair_with_k(k)
+        gears = [Gear(3, a_i, L_i, L_i), Gear(4, a_j, L_j, L_j)]
+        yield sheet_of(random, dict(power=1000, mass=1000, background=0), gears, plain=True)
+
+
+def L_urban_by_floats(random):
+    """L_urban on a half that 32-bit or 64-bit floats miss."""
+    for W, C, kp in ((642, 572, 10), (642, 592, 14), (647, 567, 15), (647, 572, 16), (641, 566, 8), (641, 581, 10), (641, 591, 12),
+                     (641, 601, 15)):
+        a = next(a for a in range(106, 301) if kp_of(106, a) == kp)  # a_urban is 1.06
+        yield sheet_of(random, {}, [Gear(3, a, W, C)], plain=True)

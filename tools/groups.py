@@ -101,5 +101,10 @@ GROUPS = (
     of_sheets.faults_beside_a_result, of_sheets.pmr_rounded, of_sheets.pmr_below_halves, of_windows.first_window_at,
     of_windows.three_runs_of_a_gear, of_windows.sixteen_without_one, of_windows.engine_speed_of_one_run,
     of_windows.near_the_background_at_constant_speed, of_windows.accelerations_below_halves, of_gears.rising_gears,
-    of_gears.constant_speed_always_needed, of_gears.negative_halves_of_rule_5,
+    of_gears.constant_speed_always_needed, of_gears.negative_halves_of_rule_5, of_sheets.pmr_halves,
+    of_sheets.reference_starts, of_sheets.high_bits, of_sheets.range_ends, of_sheets.unnamed_bytes,
+    of_sheets.kinds_of_bytes, of_sheets.whole_numbers_for_floats, of_sheets.vehicle_not_first, of_sheets.far_places,
+    of_windows.quiet_and_absent, of_windows.still_engines, of_windows.fast_runs, of_windows.last_window_of_all,
+    of_gears.nearest_by_hundredths, of_gears.sixteenth_gear, of_gears.equal_after_rounding, of_gears.weighed_by_floats,
+    of_gears.L_urban_by_floats,
 )

@@ -3,7 +3,8 @@
 import sheets
 from make import (Gear, changed, float_step, gear_runs, loud_copy, one_gear_sheet, short_runs, short_sheet, whole_with_runs,
                   with_bytes, with_number)
-from reckon import ABSENT, ACCELERATION_RUN, CONSTANT_RUN, LEVEL, OVERLOAD, records_of
+from reckon import (ABSENT, ACCELERATION_RUN, CLOSING_NUMBERS, CLOSING_UNNAMED, CONSTANT_RUN, LEVEL, OVERLOAD, RUN_NUMBERS, RUN_UNNAMED,
+                    VEHICLE_NUMBERS, VEHICLE_UNNAMED, a_ref_of, a_urban_of, number, records_of)
 from sheets import run, sheet, tenths, vehicle
 
 
@@ -232,8 +233,8 @@ LOUD, TOO_LOUD, TOO_QUIET = tenths(700), float_step(tenths(1400), 1), float_step
 # Faults of a run record, by what stands at a place.
 RUN_FAULTS = (
     (1, b"\x00"), (1, b"\x11"), (2, b"\x02"), (3, b"\x03"), (4, b"\x03"), (3, b"\xff"), (5, b"\x01"), (7, b"\x80"), (22, b"\x01"),
-    (31, b"\x01"), (8, TOO_LOUD), (12, TOO_LOUD), (8, TOO_QUIET), (12, TOO_QUIET), (16, b"\x09\x00\x09\x00"), (16, b"\xdd\x05\xdd\x05"),
-    (18, b"\xdd\x05"), (20, b"\x21\x4e"),
+    (31, b"\x01"), (8, TOO_LOUD), (12, TOO_LOUD), (8, TOO_QUIET), (12, TOO_QUIET), (16, b"\x09\x00"), (16, b"\xdd\x05"),
+    (18, b"\x09\x00"), (18, b"\xdd\x05"), (20, b"\x21\x4e"),
     (3, b"\x00\x01\x00\x00\x00" + LOUD), (4, b"\x00"),  # absent with a level
     *((3, bytes((kind, 1, 0, 0, 0)) + ZERO) for kind in (1, 2, 3, 255)),  # zero bytes on the left without being absent
     *((3, bytes((1, kind, 0, 0, 0)) + LOUD + ZERO) for kind in (1, 2, 3, 255)),
@@ -243,11 +244,11 @@ RUN_FAULTS = (
 
 
 def faults_beside_a_result(random):
-    """Refusal 5: each fault in a run that the result does not need, struck or not, of either kind, at any place."""
+    """Refusal 5: each fault in a run that the result does not need: valid, struck, with an overload or an absent reading."""
     runs = records_of(one_gear_sheet(random))[1:-1]
     for kind in (ACCELERATION_RUN, CONSTANT_RUN):
-        for struck in (0, 1):
-            stray = run(kind, 3, LOUD, LOUD, 450, 520, struck=struck)
+        for stray in (run(kind, 3, LOUD, LOUD, 450, 520), run(kind, 3, LOUD, LOUD, 450, 520, struck=1),
+                      run(kind, 3, LOUD, LOUD, 450, 520, left_kind=OVERLOAD), run(kind, 3, LOUD, ZERO, 450, 520, right_kind=ABSENT)):
             for at, part in RUN_FAULTS:
                 place = random.pick((0, 4, 8))
                 yield sheet(vehicle(), runs[:place] + [stray[:at] + part + stray[at + len(part):]] + runs[place:])
@@ -270,3 +271,80 @@ def pmr_below_halves(random):
             for beside in (-1, 1):
                 power = pow(2000, -1, mass) * beside % mass + random.between(4, 5) * mass
                 yield one_gear_sheet(random, power=power, mass=mass)
+
+
+def pmr_halves(random):
+    """PMRs on a half that 64-bit floats miss where P is in kW or is divided by m first."""
+    for power, mass in ((1292, 320), (323, 304), (651, 336), (323, 400), (641, 400), (201, 400), (803, 400), (1613, 400)):
+        yield one_gear_sheet(random, power=power, mass=mass)
+
+
+def reference_starts(random):
+    """The lowest PMR of each hundredth of a_urban and of a_ref, and the one before."""
+    starts = {q for q in range(51, 6001) if a_urban_of(q) != a_urban_of(q - 1) or a_ref_of(q) != a_ref_of(q - 1)}
+    for q in sorted(starts | {q - 1 for q in starts}):
+        yield one_gear_sheet(random, power=q, mass=1000)
+
+
+# Every bit and byte on sheets with a result.
+
+def high_bits(random):
+    """A 16-bit number with its highest bit set: refusal 5, and 4 for the run number."""
+    for whole in (one_gear_sheet(random), one_gear_sheet(random, W=720, power=1200)):
+        last = len(whole) // 32 - 1
+        for record, places in ((0, (4, 6, 8, 10, 12, 14)), (1, (16, 18, 20)), (5, (16, 18, 20)), (last, (2, 4))):
+            for at in places:
+                yield with_number(whole, record, at, number(records_of(whole)[record], at) + 32768)
+
+
+def range_ends(random):
+    """Both ends of each range of the vehicle, of a constant-speed run and of the closing record, and one past them."""
+    whole = one_gear_sheet(random)
+    for record, numbers in ((0, VEHICLE_NUMBERS), (5, RUN_NUMBERS), (9, CLOSING_NUMBERS)):
+        for at, lowest, highest in numbers:
+            for value in (lowest - 1, lowest, highest, highest + 1):
+                if value >= 0:
+                    yield with_number(whole, record, at, value)
+
+
+def unnamed_bytes(random):
+    """Refusal 5 for each unnamed byte of each kind of record."""
+    whole = one_gear_sheet(random)
+    for record, places in ((0, VEHICLE_UNNAMED), (1, RUN_UNNAMED), (8, RUN_UNNAMED), (9, CLOSING_UNNAMED)):
+        for at in places:
+            yield changed(whole, 32 * record + at, 1 << random.below(8))
+
+
+def kinds_of_bytes(random):
+    """Category, start line and struck byte with each low bit pattern."""
+    whole = one_gear_sheet(random)
+    for at in (1, 2, 34, 162):
+        for value in (0, 1, 2, 3, 4, 17, 128):
+            yield changed(whole, at, value)
+
+
+def whole_numbers_for_floats(random):
+    """Refusal 5: the bytes of a level are those of a whole number of decibels or tenths."""
+    whole = one_gear_sheet(random)
+    for value in (20, 60, 70, 140, 200, 700, 1400):
+        for record, at in ((1, 8), (2, 12), (5, 12), (8, 8)):
+            yield with_bytes(whole, record, at, value.to_bytes(4, "little"))
+
+
+def vehicle_not_first(random):
+    """Refusal 3: the vehicle record stands second, or before the closing record."""
+    for whole in (short_sheet(), one_gear_sheet(random)):
+        first, *runs, last = records_of(whole)
+        yield b"".join([runs[0], first, *runs[1:], last])
+        yield b"".join([*runs, first, last])
+
+
+def far_places(random):
+    """Refusals 4 and 5 at records from 255 on."""
+    one = short_runs()[0]
+    whole = sheet(vehicle(), [one] * 300)
+    for record in (255, 256, 257, 301):
+        yield changed(whole, 32 * record + 31, 1)
+    for count in (44, 299, 301):  # 44 has the low byte of 300
+        yield with_number(whole, 301, 2, count)
+    yield changed(sheet(vehicle(), [one] * 1010), 32 * 1005 + 30, 1)

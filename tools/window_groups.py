@@ -4,8 +4,8 @@ from itertools import islice
 
 import sheets
 from make import (QUIET_PMRS, USUAL_PMRS, Gear, acceleration_runs, car_of, constant_runs, float_at_edge, float_step,
-                  gear_runs, interleaved, loud_copy, one_gear_sheet, spoiled)
-from reckon import ABSENT, ACCELERATION_RUN, CONSTANT_RUN, records_of
+                  gear_runs, interleaved, loud_copy, one_gear_sheet, spoiled, whole_with_runs, with_number)
+from reckon import ABSENT, ACCELERATION_RUN, CONSTANT_RUN, LEVEL, records_of
 from sheets import put, run, sheet, tenths, vehicle
 
 
@@ -255,3 +255,36 @@ def is_just_below_half(squares, distance):
 def below_half_sheet(random, length, start, end):
     runs = [run(ACCELERATION_RUN, 3, tenths(700), tenths(700), start, end)] * 4
     return sheet(vehicle(length=length), runs + constant_runs(random, 3, 650, plain=True))
+
+
+def quiet_and_absent(random):
+    """Levels of 21.0 over a background of at most 10.0, one run absent on a side: refusal 7 for three valid runs."""
+    level = tenths(210)
+    for background in (0, 50, 100):
+        for left, right in ((ABSENT, LEVEL), (LEVEL, ABSENT)):
+            absent = run(ACCELERATION_RUN, 3, level if left else bytes(4), level if right else bytes(4), 450, 540,
+                         left_kind=left, right_kind=right)
+            runs = [run(ACCELERATION_RUN, 3, level, level, 450, 540)] * 3 + [absent] + [run(CONSTANT_RUN, 3, level, level)] * 4
+            yield sheet(vehicle(background=background), runs, 0)
+
+
+def still_engines(random):
+    """An engine speed of 0 is as good as another."""
+    whole = one_gear_sheet(random)
+    yield whole_with_runs(whole, lambda record: record[:20] + bytes(2) + record[22:])
+    for record in (1, 4, 5, 8):
+        yield with_number(whole, record, 20, 0)
+
+
+def fast_runs(random):
+    """The greatest accelerations: from 10 to 1,500 on the shortest path, and near it."""
+    for start, end in ((10, 1500), (11, 1500), (10, 1499), (100, 1450), (300, 1500), (10, 1100)):
+        runs = [run(ACCELERATION_RUN, 3, tenths(700), tenths(700), start, end)] * 4 + constant_runs(random, 3, 650, plain=True)
+        yield sheet(vehicle(length=100, start_line=1), runs)
+        yield sheet(vehicle(length=100), runs)
+
+
+def last_window_of_all(random):
+    """1,024 records whose last four are the only constant-speed window."""
+    runs = records_of(one_gear_sheet(random, W=720, C=720))[1:-1]
+    yield sheet(vehicle(), runs[:4] + swinging(runs[4], 1014) + runs[4:])
