@@ -20,12 +20,9 @@ SIGNS = {ast.Add: ast.Sub, ast.Sub: ast.Add, ast.Mod: ast.FloorDiv, ast.FloorDiv
 COUNTERPARTS = (("max", "min"), ("any", "all"), ("left", "right"), ("first", "last"), ("start_speed", "end_speed"),
                 ("power", "mass"), ("level_i", "level_j"), ("a_i", "a_j"), ("i", "j"), ("W", "C"), ("R", "a_urban"),
                 ("a_ref", "a_urban"), ("a_test", "a_urban"), ("a", "next_a"), ("LEVEL", "OVERLOAD"), ("LEVEL", "ABSENT"),
-                ("ACCELERATION_RUN", "CONSTANT_RUN"), ("LOWEST_LEVEL", "HIGHEST_LEVEL"), ("wot_windows", "crs_windows"),
-                ("a_urban_of", "a_ref_of"), ("sorted", "list"), ("rated_speed", "engine_speed"), ("VEHICLE", "CLOSING"),
+                ("ACCELERATION_RUN", "CONSTANT_RUN"), ("LOWEST_LEVEL", "HIGHEST_LEVEL"),
+                ("a_urban_of", "a_ref_of"), ("sorted", "list"), ("VEHICLE", "CLOSING"),
                 ("LOWEST_PMR", "CONSTANT_SPEED_PMR"), ("HIGHEST_PMR", "CONSTANT_SPEED_PMR"))
-
-
-SKIPPED = (ast.AugAssign, ast.Assert)
 
 
 def counterparts(name):
@@ -131,7 +128,7 @@ def sites(root):
     """Each part of a tree that can be read otherwise: what holds it, in which field and at which place of a list."""
     for parent in ast.walk(root):
         for field, value in ast.iter_fields(parent):
-            if field not in ("decorator_list", "targets", "target") and not isinstance(parent, SKIPPED):
+            if field not in ("decorator_list", "targets", "target") and not isinstance(parent, ast.AugAssign):
                 for at, part in enumerate(value) if isinstance(value, list) else ((None, value),):
                     if type(part) in ALTERNATIVES:
                         yield parent, field, at, part
@@ -193,6 +190,7 @@ def in_scope():
     first, last = named.index(FIRST), named.index(LAST)
     for at, statement in enumerate(statements):
         if isinstance(statement, ast.FunctionDef) and first <= at <= last and statement.name not in OUT_OF_SCOPE:
+            statement.body = [part for part in statement.body if not isinstance(part, ast.Assert)]
             yield statement
         elif isinstance(statement, ast.Assign) and ast.unparse(statement.targets[0]) not in OUT_OF_SCOPE:
             yield statement
@@ -206,6 +204,57 @@ def edits():
             yield words if seen[words] == 1 else f"{words} ({seen[words]})", changes
 
 
+def of(name, *changes):
+    return [f"{name}: {change}" for change in changes]
+
+
 # Edits that give the same answer on every sheet, by the reason.
 EQUIVALENT = {
+    "32,769 bytes are no whole records": ["MOST_SHEET_BYTES: MOST_SHEET_BYTES = 32768 -> MOST_SHEET_BYTES = 32769"],
+    "no number and no byte is below 0": [
+        "VEHICLE_NUMBERS: (12, 0, 1000) -> (12, -1, 1000)", "RUN_NUMBERS: (20, 0, 20000) -> (20, -1, 20000)",
+        "CLOSING_NUMBERS: (4, 0, 1000) -> (4, -1, 1000)", "are_zero: record[at] == 0 -> record[at] <= 0",
+        *of("reading_layout", "kind == ABSENT -> kind <= ABSENT", "four == bytes(4) -> four <= bytes(4)"),
+        *of("refuse_form", "len(sheet) % RECORD_BYTES != 0 -> len(sheet) % RECORD_BYTES > 0", "at == 0 -> at <= 0"),
+        "read_reading: kind == ABSENT -> kind <= ABSENT"],
+    "the high byte of a limit up to 100 is 0": ["VEHICLE_UNNAMED: range(16, 32) -> range(15, 32)"],
+    "nothing is taken off at 15 dB or above it": [
+        "CORRECTIONS: {10: 5, 11: 4, 12: 3, 13: 2, 14: 1, 15: 0} -> {10: 5, 11: 4, 12: 3, 13: 2, 14: 1, 16: 0}"],
+    "such a float is outside 20.0 to 140.0 either way": of(
+        "float_value", "if exponent == 255: -> if False:", "if exponent == 0: -> if False:", "exponent == 255 -> exponent >= 255",
+        "exponent == 0 -> exponent <= 0", "exponent == 255 -> exponent == 254", "exponent == 255 -> exponent == 256",
+        "exponent == 0 -> exponent == -1", "exponent == 0 -> exponent == 1", "-1 -> -0", "-1 -> -2",
+        "Fraction(fraction, 2 ** 149) -> fraction // 2 ** 149", "2 ** 149 -> 3 ** 149", "2 ** 149 -> 2 ** 148",
+        "2 ** 149 -> 2 ** 150"),
+    "the sheet has whole records when it comes to this": ["records_of: len(sheet) - RECORD_BYTES + 1 -> len(sheet) - RECORD_BYTES + 2"],
+    "refusals 3 and 4 have asked byte 0": [
+        *of("vehicle_layout", "without record[0] == VEHICLE", "record[0] == VEHICLE -> record[0] <= VEHICLE",
+            "record[0] == VEHICLE -> record[0] >= VEHICLE"),
+        *of("closing_layout", "without record[0] == CLOSING", "record[0] == CLOSING -> record[0] <= CLOSING",
+            "record[0] == CLOSING -> record[0] >= CLOSING")],
+    "the layout leaves no other value": [
+        "run_layout: record[0] == ACCELERATION_RUN -> record[0] <= ACCELERATION_RUN", "read_vehicle: first[2] == 1 -> first[2] >= 1",
+        "read_run: record[2] == 1 -> record[2] >= 1",
+        "acceleration_windows: run.kind == ACCELERATION_RUN -> run.kind <= ACCELERATION_RUN"],
+    "no record comes after the last, and no gear": ["refuse_form: at == last -> at >= last",
+                                                    "choose_gears: at + 1 == len(gears) -> at + 1 >= len(gears)"],
+    "validity asks the kind before the level": ["read_reading: None if kind == ABSENT else float_value(four) -> float_value(four)"],
+    "no power of q is an odd power of ten: q would be 100 or 1,000": [
+        "power_hundredth: 10 ** (2 * N + offset + 2) <= power -> 10 ** (2 * N + offset + 2) < power"],
+    "the N that is looked for is 35 or more": of("power_hundredth", "(q ** exponent, 0) -> (q ** exponent, -1)",
+                                                 "(q ** exponent, 0) -> (q ** exponent, 1)"),
+    "a distance has no sign": ["is_near: a - R -> R - a", "choose_gears: a - R -> R - a"],
+    "without a gear there is no i: refusal 9 all the same": of("choose_gears", "if not gears: -> if False:",
+                                                               "len(gears) == 1 -> len(gears) <= 1"),
+    "rule 4 finds j: a gear at 3.00 or above it is i, one before i, or taken by rule 2": of(
+        "choose_gears", "if not below: -> if False:", "a < CEILING -> a <= CEILING", "Refused(9, 0) -> Refused(8, 0) (3)",
+        "Refused(9, 0) -> Refused(10, 0) (3)", "Refused(9, 0) -> Refused(9, -1) (3)", "Refused(9, 0) -> Refused(9, 1) (3)"),
+    "of one, the first is the last": ["choose_gears: gears[0] -> gears[-1]", "weighed_level: levels[0] -> levels[-1]"],
+    "one gear or two are chosen": ["weighed_level: len(levels) == 1 -> len(levels) <= 1"],
+    "1 - a_urban / a' is 0 there": ["exact_kp: a_test < a_urban -> a_test <= a_urban"],
+    "kp is 1 where W < C, and W - C is 0 where they are equal": of("L_urban_of", "if W < C: -> if False:", "W < C -> W <= C",
+                                                                   "W < C -> C < C", "W < C -> W < W"),
+    "gear i has the lower number": ["constant_windows: sorted(chosen) -> list(chosen)"],
+    "no line shows a record number: it is for demand 3": of("reckon", "start=1 -> start=0", "start=1 -> start=2"),
+    "a vehicle record is no run of kind 2 or 3": ["reckon: 1:-1 -> 0:-1"],
 }
