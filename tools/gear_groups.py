@@ -328,7 +328,7 @@ def constant_speed_always_needed(random):
     """Refusal 10 where the level would not count: kp 0, k 1.00 without gear j, k 0.00 without gear i; and in rules 4 and 5."""
     for a in (80, 105, 106):  # a_urban is 1.06
         yield sheet_of(random, {}, [Gear(3, a, 700)], plain=True)
-        yield sheet_of(random, {}, [Gear(5, a, 700)], plain=True)
+        yield sheet_of(random, {}, [Gear(16, a, 700)], plain=True)
     for q, a_i, a_j in ((6000, 301, 100), (6000, 301, 160), (5917, 301, 60),  # k is 1.00
                         (250, 1500, 76), (260, 3000, 79), (400, 6000, 91),  # k is 0.00
                         (667, 320, 100), (1000, 310, 90), (250, 400, 70), (667, 200, 100), (249, 200, 60)):
@@ -402,3 +402,26 @@ def L_urban_by_floats(random):
                      (641, 601, 15)):
         a = next(a for a in range(106, 301) if kp_of(106, a) == kp)  # a_urban is 1.06
         yield sheet_of(random, {}, [Gear(3, a, W, C)], plain=True)
+
+
+def k_and_kp_by_floats(random):
+    """k and kp on a half that 32-bit or 64-bit floats miss."""
+    for q, a_i, a_j in ((50, 54, 14), (100, 92, 12), (249, 98, 58), (250, 119, 39), (50, 52, 12), (100, 88, 8), (249, 96, 56), (250, 98, 58)):
+        yield sheet_of(random, dict(power=q, mass=1000), [Gear(3, a_i, 740, 660), Gear(4, a_j, 700, 640)], plain=True)
+    for q, a in ((328, 120), (682, 200), (880, 240), (4085, 160), (264, 120), (568, 240), (707, 160), (1967, 320)):
+        yield sheet_of(random, dict(power=q, mass=1000), [Gear(3, a, 720, 640)], plain=True)
+
+
+def equal_levels_by_rule(random):
+    """W = C under rules 2, 4 and 5: kp is not 1."""
+    for q, a_i, a_j in ((667, 200, 150), (1000, 178, 120), (667, 320, 120), (1000, 310, 150), (667, 320, 100), (1000, 310, 90)):
+        for level in (655, 700):
+            gears = [Gear(3, a_i, level + 5, level + 5), Gear(4, a_j, level, level)]
+            yield sheet_of(random, dict(power=q, mass=1000), gears, plain=True)
+
+
+def rule_2_kp_halves(random):
+    """kp half-way between two hundredths for the one gear of rule 2."""
+    for q, a in ((294, 96), (409, 120), (707, 160), (1096, 192), (1223, 200), (1316, 200)):
+        gears = [Gear(3, first_above(a_ref_of(q)) + 20, 740), Gear(4, a, 720, 640)]
+        yield sheet_of(random, dict(power=q, mass=1000), gears, plain=True)

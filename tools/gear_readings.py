@@ -4,7 +4,7 @@ import math
 from fractions import Fraction
 
 import reckon
-from misread import PAPER, Single, answers, by_edit, by_floats, edited, simple
+from misread import PAPER, Single, answers, by_edit, by_floats, edited, for_rule, simple
 from reckon import ACCELERATION_RUN, CEILING, CONSTANT_RUN, CONSTANT_SPEED_PMR, ValidRun, rounded
 
 # PMR, a_urban and a_ref.
@@ -467,6 +467,19 @@ FACTORS = [
 ]
 
 
+# Some of these for one gear rule.
+
+PAIRS = ("a negative product is rounded by itself", "levels weighed by k before its rounding", "weighed from means not rounded", "k turned",
+         "k is cut", "k from a_urban", "weighed from gear i towards j", "a weighed level is cut", "a' is a(i) for a pair",
+         "a' is weighed for a pair")
+ALONE = ("a' is a_ref for one gear", "a' is at most a_ref", "k is 0 for one gear")
+ANY = ("L_urban from kp before its rounding", "a_urban / a' is rounded first", "kp is cut", "L_urban is cut", "L_urban is W where W < C",
+       "L_urban to a tenth, then to a whole", "the limit asked before L_urban's rounding", "kp 0 at PMR 25.0",
+       "kp as it comes below PMR 25.0", "kp is not 1 where W < C", "kp 1 where W = C")
+BY_RULE = [(f"{words}, rule {rule} only", for_rule(rule, dict(FACTORS)[words]))
+           for names, rules in ((PAIRS, (3, 5)), (ALONE, (1, 2, 4)), (ANY, range(1, 6))) for words in names for rule in rules]
+
+
 # What is printed.
 
 def printed(change):
@@ -489,7 +502,7 @@ PRINTED = [
     ("a refused sheet has a third number", answers(lambda word, *rest: (word, *rest, 0) if word == "REFUSED" else (word, *rest))),
 ]
 
-READINGS = PMR + LOGARITHMS + FLOATS + DROPPED + GEARS + RULES + NEAR + SPARED + CONSTANT + FACTORS + PRINTED
+READINGS = PMR + LOGARITHMS + FLOATS + DROPPED + GEARS + RULES + NEAR + SPARED + CONSTANT + FACTORS + BY_RULE + PRINTED
 
 # Readings that give the same answer on every sheet, by the reason.
 EQUIVALENT = {
@@ -500,4 +513,8 @@ EQUIVALENT = {
     "accelerations are whole hundredths": ["rule 2 with 5 % cut"],
     "L(j) is a whole number of tenths, and a half goes up wherever it stands": ["the product is rounded by itself"],
     "1 - a_urban / a' is 0 there": ["kp is 0 at a' = a_urban"],
+    "no PMR has a kp on a half with a_ref": [f"a_urban / a' is rounded first, rule {rule} only" for rule in (3, 5)],
+    "the gear of rule 4 is j, and a(j) is below R": ["a' is at most a_ref, rule 4 only"],
+    "rule 4 needs a(j) from a_urban on and out of 5 % below R: up to PMR 25.0 there is no such a": [
+        "kp 0 at PMR 25.0, rule 4 only", "kp as it comes below PMR 25.0, rule 4 only"],
 }

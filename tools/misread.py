@@ -14,11 +14,12 @@ PAPER = dict(vars(reckon))
 @contextmanager
 def reading(changes):
     """The reckoner with some of its names replaced."""
+    replaced = {name: vars(reckon)[name] for name in changes}
     vars(reckon).update(changes)
     try:
         yield
     finally:
-        vars(reckon).update({name: PAPER[name] for name in changes})
+        vars(reckon).update(replaced)
 
 
 def edited(name, *parts):
@@ -46,6 +47,27 @@ def simple(*rows):
 def before(name, change):
     """A function of the reckoner whose arguments are changed first."""
     return {name: lambda *arguments: PAPER[name](*change(*arguments))}
+
+
+def for_kind(kind, changes):
+    """A reading of the runs of one kind only."""
+    def find_window(runs, vehicle, of, gear):
+        if of != kind:
+            return PAPER["find_window"](runs, vehicle, of, gear)
+        with reading({"find_window": PAPER["find_window"], **changes}):
+            return reckon.find_window(runs, vehicle, of, gear)
+    return {"find_window": find_window}
+
+
+def for_rule(rule, changes):
+    """A reading of the sheets that one gear rule decides."""
+    def evaluate(sheet):
+        answer = PAPER["evaluate"](sheet)
+        if answer[:2] != ("OK", rule):
+            return answer
+        with reading(changes):
+            return PAPER["evaluate"](sheet)
+    return {"evaluate": evaluate}
 
 
 def answers(change):

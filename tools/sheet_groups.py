@@ -169,6 +169,7 @@ def sizes_before_kinds(random):
         yield (sheets.closing(0) * 3)[:length]
     short, long = short_sheet(), sheet(vehicle(), short_runs()[:1] * 1023)
     for extra in (1, 31):
+        yield changed(short, 0, 9)[:32 + extra]
         yield changed(short, 0, 9) + bytes(extra)
         yield with_number(short, 3, 2, 7) + bytes(extra)
     for value in (9, 0):
@@ -239,7 +240,7 @@ RUN_FAULTS = (
     *((3, bytes((kind, 1, 0, 0, 0)) + ZERO) for kind in (1, 2, 3, 255)),  # zero bytes on the left without being absent
     *((3, bytes((1, kind, 0, 0, 0)) + LOUD + ZERO) for kind in (1, 2, 3, 255)),
     (3, bytes((3, 3, 0, 0, 0)) + ZERO + ZERO),
-    (16, b"\xf4\x01\xf3\x01"),  # slower at BB': a fault of acceleration runs alone
+    (16, b"\xf4\x01\xf3\x01"), (16, b"\xdc\x05\x0a\x00"),  # slower at BB': a fault of acceleration runs alone
 )
 
 

@@ -5,7 +5,7 @@ from itertools import islice
 import sheets
 from make import (QUIET_PMRS, USUAL_PMRS, Gear, acceleration_runs, car_of, constant_runs, float_at_edge, float_step,
                   gear_runs, interleaved, loud_copy, one_gear_sheet, spoiled, whole_with_runs, with_number)
-from reckon import ABSENT, ACCELERATION_RUN, CONSTANT_RUN, LEVEL, records_of
+from reckon import ABSENT, ACCELERATION_RUN, CONSTANT_RUN, LEVEL, OVERLOAD, records_of
 from sheets import put, run, sheet, tenths, vehicle
 
 
@@ -225,7 +225,7 @@ def engine_speed_of_one_run(random):
             yield sheet(vehicle(rated_speed=5000), runs[:10])
 
 
-def near_the_background_at_constant_speed(random):
+def quiet_constant_speed(random):
     """Constant-speed runs with d 9.9 on the left or on the right are not valid; with 10.0 they are."""
     far = run(CONSTANT_RUN, 3, tenths(610), tenths(610))
     for d in (99, 100):
@@ -258,14 +258,15 @@ def below_half_sheet(random, length, start, end):
 
 
 def quiet_and_absent(random):
-    """Levels of 21.0 over a background of at most 10.0, one run absent on a side: refusal 7 for three valid runs."""
+    """Levels of 21.0 over a background of at most 10.0, one run absent on a side: refusal 7 or 10 for three valid runs."""
     level = tenths(210)
     for background in (0, 50, 100):
         for left, right in ((ABSENT, LEVEL), (LEVEL, ABSENT)):
-            absent = run(ACCELERATION_RUN, 3, level if left else bytes(4), level if right else bytes(4), 450, 540,
-                         left_kind=left, right_kind=right)
-            runs = [run(ACCELERATION_RUN, 3, level, level, 450, 540)] * 3 + [absent] + [run(CONSTANT_RUN, 3, level, level)] * 4
-            yield sheet(vehicle(background=background), runs, 0)
+            for kind in (ACCELERATION_RUN, CONSTANT_RUN):
+                absent = run(kind, 3, level if left else bytes(4), level if right else bytes(4), 450, 540, left_kind=left, right_kind=right)
+                runs = [run(ACCELERATION_RUN, 3, level, level, 450, 540)] * 4 + [run(CONSTANT_RUN, 3, level, level)] * 4
+                runs[3 if kind == ACCELERATION_RUN else 7] = absent
+                yield sheet(vehicle(background=background), runs, 0)
 
 
 def still_engines(random):
@@ -288,3 +289,23 @@ def last_window_of_all(random):
     """1,024 records whose last four are the only constant-speed window."""
     runs = records_of(one_gear_sheet(random, W=720, C=720))[1:-1]
     yield sheet(vehicle(), runs[:4] + swinging(runs[4], 1014) + runs[4:])
+
+
+def struck_alone(random):
+    """Refusal 7 at the lowest gear where every acceleration run is struck: struck runs are runs of their gear."""
+    for gears in ((3,), (5, 2), (16, 9), (1,)):
+        runs = gear_runs(random, {}, [Gear(gear, 149, 700, 650) for gear in gears], plain=True)
+        yield sheet(vehicle(), [one[:2] + bytes([one[0] == ACCELERATION_RUN]) + one[3:] for one in runs])
+
+
+def set_aside_between(random):
+    """One run that is not valid, for each cause, between two runs of a window: the window stays, of either run kind."""
+    level, near = tenths(700), tenths(450)
+    for kind, first in ((ACCELERATION_RUN, 0), (CONSTANT_RUN, 4)):
+        for stray in (run(kind, 3, level, level, 450, 540, struck=1), run(kind, 3, level, level, 450, 540, left_kind=OVERLOAD),
+                      run(kind, 3, level, level, 450, 540, right_kind=OVERLOAD), run(kind, 3, bytes(4), level, 450, 540, left_kind=ABSENT),
+                      run(kind, 3, level, bytes(4), 450, 540, right_kind=ABSENT), run(kind, 3, near, level, 450, 540),
+                      run(kind, 3, level, near, 450, 540)):
+            runs = records_of(one_gear_sheet(random, W=720, C=680))[1:-1]
+            for at in (1, 2, 3):
+                yield sheet(vehicle(), runs[:first + at] + [stray] + runs[first + at:])

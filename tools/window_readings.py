@@ -4,7 +4,7 @@ import math
 from fractions import Fraction
 
 import reckon
-from misread import (PAPER, Single, before, by_a_tenth_first, by_edit, by_floats, half_down, half_from_zero, half_to_even, not_at_all,
+from misread import (PAPER, Single, before, by_a_tenth_first, by_edit, by_floats, for_kind, half_down, half_from_zero, half_to_even, not_at_all,
                      rounding_in, simple)
 from reckon import ABSENT, ACCELERATION_RUN, CONSTANT_RUN, LEVEL, OVERLOAD, rounded, span
 
@@ -140,6 +140,20 @@ VALID = by_edit(
     ("a constant-speed run that changes its speed is not valid", "valid_run", "if run.struck or",
      "if run.struck or run.kind == 3 and run.start_speed != run.end_speed or"),
 )
+
+
+def with_side(side, level):
+    """A valid run with another level on one side."""
+    def valid_run(run, vehicle):
+        valid = PAPER["valid_run"](run, vehicle)
+        return valid and valid._replace(**{side: level(getattr(run, side).value, getattr(valid, side))})
+    return {"valid_run": valid_run}
+
+
+SIDES = [(f"the {side} level is {words}", with_side(side, level)) for side in ("left", "right") for words, level in (
+    ("not corrected", lambda value, corrected: rounded(10 * value)),
+    ("cut to a tenth", lambda value, corrected: corrected - rounded(10 * value) + int(10 * value)),
+    ("0.1 higher", lambda value, corrected: corrected + 1))]
 
 
 # Step 4: windows.
@@ -387,8 +401,17 @@ OTHERS = simple(
     ("an acceleration of at most 9.99", "run_acceleration", lambda *run: min(999, PAPER["run_acceleration"](*run))),
 )
 
-READINGS = (ROUNDINGS + NOT_ROUNDED + FLOATS + CORRECTED + TAKEN + VALID + SEARCHES + FAR + PARTED + SPANS + MEANS + ACCELERATIONS
-            + OTHERS)
+# The readings of levels and windows once more, each for one kind of run.
+
+def names_a_kind(words):
+    return any(part in words for part in ("constant", "acceleration", "faster"))
+
+
+KINDS = [(f"{words}, {runs}", for_kind(kind, changes)) for words, changes in CORRECTED + TAKEN + VALID + SIDES + SEARCHES[:18] + PARTED + SPANS
+         if not names_a_kind(words) for runs, kind in (("acceleration runs only", ACCELERATION_RUN), ("constant speed only", CONSTANT_RUN))]
+
+READINGS = (ROUNDINGS + NOT_ROUNDED + FLOATS + CORRECTED + TAKEN + VALID + SIDES + SEARCHES + FAR + PARTED + SPANS + MEANS + ACCELERATIONS
+            + OTHERS + KINDS)
 
 # Readings that give the same answer on every sheet, by the reason.
 EQUIVALENT = {
@@ -399,8 +422,9 @@ EQUIVALENT = {
         f"a {what} by {size} floats" for what in ("gear's acceleration", "condition's level") for size in ("32-bit", "64-bit")],
     "ten times a 32-bit float is exact in 64 bits": ["a level by 64-bit floats"],
     "a half is exact, and any other quotient is further from one than its error": ["a run's acceleration by 64-bit floats"],
-    "no rule tells left from right": ["sides exchanged"],
-    "0 is not 10.0 above a background": ["an absent reading is the level 0"],
+    "no rule tells left from right": [f"sides exchanged{runs}" for runs in ("", ", acceleration runs only", ", constant speed only")],
+    "0 is not 10.0 above a background": [
+        f"an absent reading is the level 0{runs}" for runs in ("", ", acceleration runs only", ", constant speed only")],
     "rounding keeps the order of the two": ["both means are rounded, the larger one counts"],
     "625 x (1,500² - 10²) is below 2^31": ["the product by 31 bits"],
 }
