@@ -406,7 +406,8 @@ def L_urban_by_floats(random):
 
 def k_and_kp_by_floats(random):
     """k and kp on a half that 32-bit or 64-bit floats miss."""
-    for q, a_i, a_j in ((50, 54, 14), (100, 92, 12), (249, 98, 58), (250, 119, 39), (50, 52, 12), (100, 88, 8), (249, 96, 56), (250, 98, 58)):
+    for q, a_i, a_j in ((50, 54, 14), (100, 92, 12), (249, 98, 58), (250, 119, 39), (50, 52, 12), (100, 88, 8), (249, 96, 56),
+                        (250, 98, 58)):
         yield sheet_of(random, dict(power=q, mass=1000), [Gear(3, a_i, 740, 660), Gear(4, a_j, 700, 640)], plain=True)
     for q, a in ((328, 120), (682, 200), (880, 240), (4085, 160), (264, 120), (568, 240), (707, 160), (1967, 320)):
         yield sheet_of(random, dict(power=q, mass=1000), [Gear(3, a, 720, 640)], plain=True)

@@ -10,7 +10,8 @@ from reckon import ACCELERATION_RUN, CEILING, CONSTANT_RUN, CONSTANT_SPEED_PMR, 
 # PMR, a_urban and a_ref.
 
 PMR = by_edit(
-    ("PMR is cut to a tenth", "pmr_tenths", "rounded(Fraction(1000 * vehicle.power, vehicle.mass))", "1000 * vehicle.power // vehicle.mass"),
+    ("PMR is cut to a tenth", "pmr_tenths", "rounded(Fraction(1000 * vehicle.power, vehicle.mass))",
+     "1000 * vehicle.power // vehicle.mass"),
     ("PMR rounded to a whole number", "pmr_tenths", "rounded(Fraction(1000 * vehicle.power, vehicle.mass))",
      "10 * rounded(Fraction(100 * vehicle.power, vehicle.mass))"),
     ("P in whole kW", "pmr_tenths", "1000 * vehicle.power", "10000 * (vehicle.power // 10)"),
@@ -21,9 +22,12 @@ PMR = by_edit(
     ("q by 12 bits", "pmr_tenths", "return rounded(", "return 4095 & rounded("),
     ("PMR asked before it is rounded", "reckon", "if not LOWEST_PMR <= PMR <= HIGHEST_PMR",
      "if not LOWEST_PMR <= Fraction(1000 * vehicle.power, vehicle.mass) <= HIGHEST_PMR"),
-    ("PMR's lowest asked before it is rounded", "reckon", "if not LOWEST_PMR <= PMR", "if not LOWEST_PMR <= Fraction(1000 * vehicle.power, vehicle.mass) and PMR"),
-    ("PMR's highest asked before it is rounded", "reckon", "<= PMR <= HIGHEST_PMR", "<= PMR or Fraction(1000 * vehicle.power, vehicle.mass) > HIGHEST_PMR"),
-    ("PMR in whole numbers asked", "reckon", "if not LOWEST_PMR <= PMR <= HIGHEST_PMR", "if not LOWEST_PMR <= PMR // 10 * 10 <= HIGHEST_PMR"),
+    ("PMR's lowest asked before it is rounded", "reckon", "if not LOWEST_PMR <= PMR",
+     "if not LOWEST_PMR <= Fraction(1000 * vehicle.power, vehicle.mass) and PMR"),
+    ("PMR's highest asked before it is rounded", "reckon", "<= PMR <= HIGHEST_PMR",
+     "<= PMR or Fraction(1000 * vehicle.power, vehicle.mass) > HIGHEST_PMR"),
+    ("PMR in whole numbers asked", "reckon", "if not LOWEST_PMR <= PMR <= HIGHEST_PMR",
+     "if not LOWEST_PMR <= PMR // 10 * 10 <= HIGHEST_PMR"),
     ("a_ref by its formula below PMR 25.0", "a_ref_of", "a_urban_of(q) if q < CONSTANT_SPEED_PMR", "0 if q < 150"),
     ("a_ref is a_urban at PMR 25.0", "a_ref_of", "q < CONSTANT_SPEED_PMR", "q <= CONSTANT_SPEED_PMR"),
     ("a_ref is a_urban", "a_ref_of", "a_urban_of(q) if q < CONSTANT_SPEED_PMR else power_hundredth(q, 318, 599)", "a_urban_of(q)"),
@@ -61,7 +65,8 @@ def weighed_in_decibels(kind, level_i, level_j, k):
 
 FLOATS = [(f"{words} by {size} floats", changes) for words, name, formula in (
     ("PMR", "pmr_tenths", lambda kind, vehicle: kind(1000) * kind(vehicle.power) / kind(vehicle.mass)),
-    ("PMR from P in kW", "pmr_tenths", lambda kind, vehicle: kind(10) * (kind(1000) * (kind(vehicle.power) / kind(10)) / kind(vehicle.mass))),
+    ("PMR from P in kW", "pmr_tenths",
+     lambda kind, vehicle: kind(10) * (kind(1000) * (kind(vehicle.power) / kind(10)) / kind(vehicle.mass))),
     ("PMR from P / m", "pmr_tenths", lambda kind, vehicle: kind(vehicle.power) / kind(vehicle.mass) * kind(1000)),
     ("k", "k_hundredths", lambda kind, R, a_i, a_j: kind(100) * (kind(R - a_j) / kind(a_i - a_j))),
     ("k from m/s²", "k_hundredths", lambda kind, R, a_i, a_j: kind(100) * (
@@ -95,7 +100,8 @@ def near_by_floats(kind):
     return {"is_near": is_near}
 
 
-FLOATS += [(f"{words} by {size} floats", of(kind)) for words, of in (("kp", kp_by_floats), ("L_urban", L_urban_by_floats), ("rule 2", near_by_floats))
+FLOATS += [(f"{words} by {size} floats", of(kind))
+           for words, of in (("kp", kp_by_floats), ("L_urban", L_urban_by_floats), ("rule 2", near_by_floats))
            for size, kind in (("32-bit", Single), ("64-bit", float))]
 
 
@@ -167,27 +173,33 @@ GEARS = simple(
     ("a gear above S needs no window", "acceleration_windows", dropped_gears_forgotten),
     ("falling is asked before gears are dropped", "acceleration_windows", falling_before_dropping),
 ) + by_edit(
-    ("the highest gear without a window is named", "acceleration_windows", "    for gear in gears:\n", "    for gear in reversed(gears):\n"),
+    ("the highest gear without a window is named", "acceleration_windows", "    for gear in gears:\n",
+     "    for gear in reversed(gears):\n"),
     ("the first gear driven without a window is named", "acceleration_windows", "    for gear in gears:\n",
      "    for gear in dict.fromkeys(run.gear for run in runs if run.kind == ACCELERATION_RUN):\n"),
-    ("refusal 7 names the gear by its place among the gears", "acceleration_windows", "Refused(7, gear)", "Refused(7, gears.index(gear) + 1)"),
+    ("refusal 7 names the gear by its place among the gears", "acceleration_windows", "Refused(7, gear)",
+     "Refused(7, gears.index(gear) + 1)"),
     ("gears without a window are left out", "acceleration_windows", "    for gear in gears:\n",
      "    windows = {gear: four for gear, four in windows.items() if four}\n    for gear in windows:\n"),
     ("the lowest gear alone needs a window", "acceleration_windows", "    for gear in gears:\n",
      "    windows = {gear: four for gear, four in windows.items() if four or gear == gears[0]}\n    for gear in windows:\n"),
     ("every gear of the sheet needs an acceleration window", "acceleration_windows", " if run.kind == ACCELERATION_RUN}", "}"),
-    ("gears by the order in which they were driven", "acceleration_windows", "sorted({run.gear for run in runs if run.kind == ACCELERATION_RUN})",
+    ("gears by the order in which they were driven", "acceleration_windows",
+     "sorted({run.gear for run in runs if run.kind == ACCELERATION_RUN})",
      "list(dict.fromkeys(run.gear for run in runs if run.kind == ACCELERATION_RUN))"),
-    ("no acceleration run: struck ones do not count", "acceleration_windows", "if not gears", "if all(run.struck for run in runs if run.kind == 2)"),
+    ("no acceleration run: struck ones do not count", "acceleration_windows", "if not gears",
+     "if all(run.struck for run in runs if run.kind == 2)"),
     ("no acceleration run is refusal 9", "acceleration_windows", "Refused(7, 0)", "Refused(9, 0)"),
     ("falling is asked of all gears but the last two", "refuse_unless_falling", "gears[1:]", "gears[1:-1]"),
     ("falling is asked of all gears but the first two", "refuse_unless_falling", "zip(gears, gears[1:])", "zip(gears[1:], gears[2:])"),
     ("falling is asked of the first two gears", "refuse_unless_falling", "gears[1:]", "gears[1:2]"),
     ("falling is asked of the first and the last gear", "refuse_unless_falling", "zip(gears, gears[1:])", "zip(gears[:1], gears[1:][-1:])"),
-    ("falling is asked of neighbouring numbers only", "refuse_unless_falling", "(_, next_a) in", "(above, next_a) in", "if not a", "if above == gear + 1 and not a"),
+    ("falling is asked of neighbouring numbers only", "refuse_unless_falling", "(_, next_a) in", "(above, next_a) in", "if not a",
+     "if above == gear + 1 and not a"),
     ("the last neighbours are named", "refuse_unless_falling", "zip(gears, gears[1:])", "reversed(list(zip(gears, gears[1:])))"),
     ("the higher gear is named", "refuse_unless_falling", "(gear, a), (_, next_a)", "(_, a), (gear, next_a)"),
-    ("the gear is named by its place", "refuse_unless_falling", "Refused(8, gear)", "Refused(8, [one for one, _ in gears].index(gear) + 1)"),
+    ("the gear is named by its place", "refuse_unless_falling", "Refused(8, gear)",
+     "Refused(8, [one for one, _ in gears].index(gear) + 1)"),
     ("the lowest gear is named", "refuse_unless_falling", "Refused(8, gear)", "Refused(8, gears[0][0])"),
     ("equal accelerations fall", "refuse_unless_falling", "a > next_a", "a >= next_a"),
     ("accelerations have to rise", "refuse_unless_falling", "a > next_a", "a < next_a"),
@@ -207,7 +219,8 @@ RULES = by_edit(
     ("rule 2 before rule 1", "choose_gears", "if len(gears) == 1:", "if len(gears) == 1 and not is_near(gears[0][1], R):"),
     ("no rule 1", "choose_gears", "if len(gears) == 1:", "if False:"),
     ("no rule 2", "choose_gears", "if near:", "if False:"),
-    ("rule 2 takes the higher number on a tie", "choose_gears", "(abs(a - R), gear) for", "(abs(a - R), -gear) for", "min(near)[1]", "-min(near)[1]"),
+    ("rule 2 takes the higher number on a tie", "choose_gears", "(abs(a - R), gear) for", "(abs(a - R), -gear) for", "min(near)[1]",
+     "-min(near)[1]"),
     ("rule 2 takes the first", "choose_gears", "min(near)[1]", "near[0][1]"),
     ("rule 2 takes the last", "choose_gears", "min(near)[1]", "near[-1][1]"),
     ("rule 2 takes the furthest", "choose_gears", "min(near)[1]", "max(near)[1]"),
@@ -237,9 +250,11 @@ RULES = by_edit(
      "if at is not None and at + 1 == len(gears):\n        at -= 1\n    if at is None:"),
     ("where no rule applies, the nearest gear", "choose_gears", "if at is None or at + 1 == len(gears):\n        raise Refused(9, 0)",
      "if at is None or at + 1 == len(gears):\n        return 2, min((abs(a - R), gear) for gear, a in gears)[1], None"),
-    ("no gear remains is refusal 7", "choose_gears", "if not gears:\n        raise Refused(9, 0)", "if not gears:\n        raise Refused(7, 0)"),
+    ("no gear remains is refusal 7", "choose_gears", "if not gears:\n        raise Refused(9, 0)",
+     "if not gears:\n        raise Refused(7, 0)"),
     ("no rule is refusal 8", "choose_gears", "len(gears):\n        raise Refused(9, 0)", "len(gears):\n        raise Refused(8, 0)"),
-    ("refusal 9 names the last gear", "choose_gears", "len(gears):\n        raise Refused(9, 0)", "len(gears):\n        raise Refused(9, gears[-1][0])"),
+    ("refusal 9 names the last gear", "choose_gears", "len(gears):\n        raise Refused(9, 0)",
+     "len(gears):\n        raise Refused(9, gears[-1][0])"),
     ("rule 3 for a(i) below 3.00", "choose_gears", "a_i <= CEILING", "a_i < CEILING"),
     ("rule 3 for a(j) up to 3.00", "choose_gears", "a_i <= CEILING", "a_j <= CEILING"),
     ("rule 3 always", "choose_gears", "if a_i <= CEILING", "if True"),
@@ -297,12 +312,14 @@ def negative_product_rounded_away(level_i, level_j, k):
 def exact_k_for_levels():
     """Levels weighed by k before its rounding; k is printed as it is."""
     return edited("reckon", "W, C = weighed_level(wot_windows, k), weighed_level(crs_windows, k)",
-                  "e = k if j is None else 100 * exact_k(a_ref, a[i], a[j])\n    W, C = weighed_level(wot_windows, e), weighed_level(crs_windows, e)")
+                  "e = k if j is None else 100 * exact_k(a_ref, a[i], a[j])\n"
+                  "    W, C = weighed_level(wot_windows, e), weighed_level(crs_windows, e)")
 
 
 def exact_kp_for_L_urban():
     return edited("reckon", "L_urban = L_urban_of(PMR, W, C, kp)",
-                  "e = kp if PMR < CONSTANT_SPEED_PMR or W < C else 100 * exact_kp(a_urban, a_test)\n    L_urban = L_urban_of(PMR, W, C, e)")
+                  "e = kp if PMR < CONSTANT_SPEED_PMR or W < C else 100 * exact_kp(a_urban, a_test)\n"
+                  "    L_urban = L_urban_of(PMR, W, C, e)")
 
 
 EXACT_LEVELS = """levels = [[condition_level(one) for one in windows] for windows in (wot_windows, crs_windows)]
@@ -316,7 +333,8 @@ def exact_levels_for_L_urban():
 
 def exact_levels_for_kp():
     """W < C asked before the rounding."""
-    return edited("reckon", "kp = kp_hundredths(PMR, W, C, a_urban, a_test)", EXACT_LEVELS + "\n    kp = kp_hundredths(PMR, w, c, a_urban, a_test)")
+    return edited("reckon", "kp = kp_hundredths(PMR, W, C, a_urban, a_test)",
+                  EXACT_LEVELS + "\n    kp = kp_hundredths(PMR, w, c, a_urban, a_test)")
 
 
 def exact_pass():
@@ -372,16 +390,20 @@ SPARED = [(f"no constant-speed window is asked {words}", spared(condition)) for 
 )]
 
 CONSTANT = by_edit(
-    ("the higher chosen gear without a constant-speed window is named", "constant_windows", "sorted(chosen)", "sorted(chosen, reverse=True)"),
+    ("the higher chosen gear without a constant-speed window is named", "constant_windows", "sorted(chosen)",
+     "sorted(chosen, reverse=True)"),
     ("refusal 10 names the chosen gear's place", "constant_windows", "Refused(10, gear)", "Refused(10, chosen.index(gear) + 1)"),
     ("refusal 10 names gear i", "constant_windows", "Refused(10, gear)", "Refused(10, chosen[0])"),
     ("refusal 10 names gear j", "constant_windows", "Refused(10, gear)", "Refused(10, chosen[-1])"),
-    ("constant speed is asked of all remaining gears", "reckon", "constant_windows(runs, vehicle, chosen)", "constant_windows(runs, vehicle, remaining)"),
-    ("constant speed is asked of all gears driven", "reckon", "constant_windows(runs, vehicle, chosen)", "constant_windows(runs, vehicle, list(windows))"),
+    ("constant speed is asked of all remaining gears", "reckon", "constant_windows(runs, vehicle, chosen)",
+     "constant_windows(runs, vehicle, remaining)"),
+    ("constant speed is asked of all gears driven", "reckon", "constant_windows(runs, vehicle, chosen)",
+     "constant_windows(runs, vehicle, list(windows))"),
     ("constant speed of gear i for both", "reckon", "constant[gear] for gear in chosen", "constant[i] for gear in chosen"),
     ("constant speed of gear j for both", "reckon", "constant[gear] for gear in chosen", "constant[chosen[-1]] for gear in chosen"),
     ("acceleration of gear i for both", "reckon", "tuple(windows[gear] for gear in chosen)", "tuple(windows[i] for gear in chosen)"),
-    ("acceleration of gear j for both", "reckon", "tuple(windows[gear] for gear in chosen)", "tuple(windows[chosen[-1]] for gear in chosen)"),
+    ("acceleration of gear j for both", "reckon", "tuple(windows[gear] for gear in chosen)",
+     "tuple(windows[chosen[-1]] for gear in chosen)"),
     ("acceleration for constant speed", "reckon", "weighed_level(crs_windows, k)", "weighed_level(wot_windows, k)"),
     ("constant speed for acceleration", "reckon", "weighed_level(wot_windows, k)", "weighed_level(crs_windows, k)"),
     ("constant speed is not weighed", "reckon", "weighed_level(crs_windows, k)", "condition_level(crs_windows[0])"),
@@ -404,11 +426,15 @@ FACTORS = [
         ("k is cut", "k_hundredths", "rounded(100 * exact_k(R, a_i, a_j))", "int(100 * exact_k(R, a_i, a_j))"),
         ("k is rounded up", "k_hundredths", "rounded(100 * exact_k(R, a_i, a_j))", "-int(-100 * exact_k(R, a_i, a_j) // 1)"),
         ("k to tenths", "k_hundredths", "rounded(100 * exact_k(R, a_i, a_j))", "10 * rounded(10 * exact_k(R, a_i, a_j))"),
-        ("k to thousandths first", "k_hundredths", "rounded(100 * exact_k(R, a_i, a_j))", "rounded(Fraction(rounded(1000 * exact_k(R, a_i, a_j)), 10))"),
+        ("k to thousandths first", "k_hundredths", "rounded(100 * exact_k(R, a_i, a_j))",
+         "rounded(Fraction(rounded(1000 * exact_k(R, a_i, a_j)), 10))"),
         ("k from a_urban", "reckon", "k_hundredths(a_ref,", "k_hundredths(a_urban,"),
-        ("k from 0.01 to 0.99", "k_hundredths", "return rounded(100 * exact_k(R, a_i, a_j))", "return min(99, max(1, rounded(100 * exact_k(R, a_i, a_j))))"),
-        ("k at least 0.01", "k_hundredths", "return rounded(100 * exact_k(R, a_i, a_j))", "return max(1, rounded(100 * exact_k(R, a_i, a_j)))"),
-        ("k at most 0.99", "k_hundredths", "return rounded(100 * exact_k(R, a_i, a_j))", "return min(99, rounded(100 * exact_k(R, a_i, a_j)))"),
+        ("k from 0.01 to 0.99", "k_hundredths", "return rounded(100 * exact_k(R, a_i, a_j))",
+         "return min(99, max(1, rounded(100 * exact_k(R, a_i, a_j))))"),
+        ("k at least 0.01", "k_hundredths", "return rounded(100 * exact_k(R, a_i, a_j))",
+         "return max(1, rounded(100 * exact_k(R, a_i, a_j)))"),
+        ("k at most 0.99", "k_hundredths", "return rounded(100 * exact_k(R, a_i, a_j))",
+         "return min(99, rounded(100 * exact_k(R, a_i, a_j)))"),
         ("k 1.00 is one gear", "reckon", "a_test = a_test_of", "i, j = (i, None) if k == 100 else (i, j)\n    a_test = a_test_of"),
         ("k 0.00 is gear j alone", "reckon", "a_test = a_test_of", "i, j = (j, None) if k == 0 else (i, j)\n    a_test = a_test_of"),
         ("k is 0 for one gear", "reckon", "k = 100 if", "k = 0 if"),
@@ -427,11 +453,15 @@ FACTORS = [
         ("a' is a(i) for a pair", "a_test_of", "a_i if alone else a_ref", "a_i"),
         ("a' is weighed for a pair", "reckon", "a_test_of(a_ref, a[i], j is None)",
          "a[i] if j is None else weighed_tenths(a[i], a[j], k)"),
-        ("a' is the mean for a pair", "reckon", "a_test_of(a_ref, a[i], j is None)", "a[i] if j is None else rounded(Fraction(a[i] + a[j], 2))"),
+        ("a' is the mean for a pair", "reckon", "a_test_of(a_ref, a[i], j is None)",
+         "a[i] if j is None else rounded(Fraction(a[i] + a[j], 2))"),
         ("a' is at most a_ref", "a_test_of", "a_i if alone else a_ref", "min(a_i, a_ref) if alone else a_ref"),
-        ("a' is at least a_urban", "reckon", "a_test = a_test_of(a_ref, a[i], j is None)", "a_test = max(a_urban, a_test_of(a_ref, a[i], j is None))"),
-        ("a' is at most 3.00", "reckon", "a_test = a_test_of(a_ref, a[i], j is None)", "a_test = min(CEILING, a_test_of(a_ref, a[i], j is None))"),
-        ("kp from a_ref, a' printed as it is", "reckon", "kp_hundredths(PMR, W, C, a_urban, a_test)", "kp_hundredths(PMR, W, C, a_urban, a_ref)"),
+        ("a' is at least a_urban", "reckon", "a_test = a_test_of(a_ref, a[i], j is None)",
+         "a_test = max(a_urban, a_test_of(a_ref, a[i], j is None))"),
+        ("a' is at most 3.00", "reckon", "a_test = a_test_of(a_ref, a[i], j is None)",
+         "a_test = min(CEILING, a_test_of(a_ref, a[i], j is None))"),
+        ("kp from a_ref, a' printed as it is", "reckon", "kp_hundredths(PMR, W, C, a_urban, a_test)",
+         "kp_hundredths(PMR, W, C, a_urban, a_ref)"),
         ("a_urban / a' is rounded first", "kp_hundredths", "return rounded(100 * exact_kp(a_urban, a_test))",
          "return 0 if a_test < a_urban else 100 - rounded(Fraction(100 * a_urban, a_test))"),
         ("kp is cut", "kp_hundredths", "rounded(100 * exact_kp(a_urban, a_test))", "int(100 * exact_kp(a_urban, a_test))"),

@@ -232,6 +232,12 @@ def references(q):
     return a_urban_of(q), a_ref_of(q)
 
 
+def beside_starts():
+    """The lowest PMR of each hundredth of a_urban and of a_ref, and the PMR before it."""
+    starts = {q for q in range(51, 6001) if references(q) != references(q - 1)}
+    return sorted(starts | {q - 1 for q in starts})
+
+
 def pair_around(q, above, below):
     """Two gears that R lies between, so many hundredths outside what rule 2 takes."""
     R = a_ref_of(q)

@@ -1,10 +1,10 @@
 """Groups of the corpus about the bytes of a sheet: refusals 2 to 6, and both ends of every field."""
 
 import sheets
-from make import (Gear, changed, float_step, gear_runs, loud_copy, one_gear_sheet, short_runs, short_sheet, whole_with_runs,
+from make import (Gear, beside_starts, changed, float_step, gear_runs, loud_copy, one_gear_sheet, short_runs, short_sheet, whole_with_runs,
                   with_bytes, with_number)
 from reckon import (ABSENT, ACCELERATION_RUN, CLOSING_NUMBERS, CLOSING_UNNAMED, CONSTANT_RUN, LEVEL, OVERLOAD, RUN_NUMBERS, RUN_UNNAMED,
-                    VEHICLE_NUMBERS, VEHICLE_UNNAMED, a_ref_of, a_urban_of, number, records_of)
+                    VEHICLE_NUMBERS, VEHICLE_UNNAMED, number, records_of)
 from sheets import run, sheet, tenths, vehicle
 
 
@@ -282,8 +282,7 @@ def pmr_halves(random):
 
 def reference_starts(random):
     """The lowest PMR of each hundredth of a_urban and of a_ref, and the one before."""
-    starts = {q for q in range(51, 6001) if a_urban_of(q) != a_urban_of(q - 1) or a_ref_of(q) != a_ref_of(q - 1)}
-    for q in sorted(starts | {q - 1 for q in starts}):
+    for q in beside_starts():
         yield one_gear_sheet(random, power=q, mass=1000)
 
 

@@ -152,7 +152,8 @@ OTHERS = simple(
     ("a closing record is looked for from the front", "refuse_form", "last = len(records) - 1",
      "last = next((at for at, one in enumerate(records) if one[0] == CLOSING), len(records) - 1)"),
     ("the highest broken record is named", "refuse_form", "enumerate(records)", "reversed(list(enumerate(records)))"),
-    ("closing is checked before the runs", "refuse_form", "enumerate(records)", "sorted(enumerate(records), key=lambda one: one[0] != last)"),
+    ("closing is checked before the runs", "refuse_form", "enumerate(records)",
+     "sorted(enumerate(records), key=lambda one: one[0] != last)"),
     ("the vehicle record is checked last", "refuse_form", "enumerate(records)", "sorted(enumerate(records), key=lambda one: one[0] == 0)"),
     ("refusal 5 counts runs from 0", "refuse_form", "Refused(5, at)", "Refused(5, max(at - 1, 0))"),
     ("refusal 5 names the byte", "refuse_form", "Refused(5, at)", "Refused(5, 32 * at)"),
@@ -167,7 +168,8 @@ OTHERS = simple(
     ("the smaller background", "read_vehicle", "max(number(first, 12)", "min(number(first, 12)"),
     ("the mean background", "read_vehicle", "max(number(first, 12), number(last, 4))",
      "rounded(Fraction(number(first, 12) + number(last, 4), 2))"),
-    ("backgrounds in whole dB", "read_vehicle", "max(number(first, 12), number(last, 4))", "max(number(first, 12), number(last, 4)) // 10 * 10"),
+    ("backgrounds in whole dB", "read_vehicle", "max(number(first, 12), number(last, 4))",
+     "max(number(first, 12), number(last, 4)) // 10 * 10"),
 )
 
 

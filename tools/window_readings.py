@@ -4,8 +4,8 @@ import math
 from fractions import Fraction
 
 import reckon
-from misread import (PAPER, Single, before, by_a_tenth_first, by_edit, by_floats, for_kind, half_down, half_from_zero, half_to_even, not_at_all,
-                     rounding_in, simple)
+from misread import (PAPER, Single, before, by_a_tenth_first, by_edit, by_floats, for_kind, half_down, half_from_zero, half_to_even,
+                     not_at_all, rounding_in, simple)
 from reckon import ABSENT, ACCELERATION_RUN, CONSTANT_RUN, LEVEL, OVERLOAD, rounded, span
 
 # Roundings, here and in the gear rules and L_urban.
@@ -116,19 +116,16 @@ TAKEN = [
       for level in (0, 20)),
 ]
 
+# A run whose d is not asked of a side has that side's level without a correction.
+KEPT = ("ValidRun(run.record, left, right",
+        "ValidRun(run.record, left or rounded(10 * run.left.value), right or rounded(10 * run.right.value)")
+
 VALID = by_edit(
-    ("d asked of the left only", "valid_run", "left is None or right is None", "left is None", "ValidRun(run.record, left, right",
-     "ValidRun(run.record, left, right or rounded(10 * run.right.value)"),
-    ("d asked of the right only", "valid_run", "left is None or right is None", "right is None", "ValidRun(run.record, left, right",
-     "ValidRun(run.record, left or rounded(10 * run.left.value), right"),
-    ("d asked of one side or the other", "valid_run", "left is None or right is None", "left is None and right is None",
-     "ValidRun(run.record, left, right", "ValidRun(run.record, left or rounded(10 * run.left.value), right or rounded(10 * run.right.value)"),
-    ("d not asked at constant speed", "valid_run", "left is None or right is None",
-     "run.kind == ACCELERATION_RUN and (left is None or right is None)", "ValidRun(run.record, left, right",
-     "ValidRun(run.record, left or rounded(10 * run.left.value), right or rounded(10 * run.right.value)"),
-    ("d not asked in acceleration", "valid_run", "left is None or right is None",
-     "run.kind == CONSTANT_RUN and (left is None or right is None)", "ValidRun(run.record, left, right",
-     "ValidRun(run.record, left or rounded(10 * run.left.value), right or rounded(10 * run.right.value)"),
+    *((words, "valid_run", "left is None or right is None", test, *KEPT) for words, test in (
+        ("d asked of the left only", "left is None"), ("d asked of the right only", "right is None"),
+        ("d asked of one side or the other", "left is None and right is None"),
+        ("d not asked at constant speed", "run.kind == ACCELERATION_RUN and (left is None or right is None)"),
+        ("d not asked in acceleration", "run.kind == CONSTANT_RUN and (left is None or right is None)"))),
     ("one reading has to be a level", "valid_run", "run.left.kind != LEVEL or run.right.kind != LEVEL",
      "run.left.kind != LEVEL and run.right.kind != LEVEL or ABSENT in (run.left.kind, run.right.kind)"),
     ("a run above S is not valid", "valid_run", "if run.struck or", "if run.struck or run.engine_speed > vehicle.rated_speed or"),
@@ -226,7 +223,8 @@ SEARCHES = [
     search("the last place is not looked at", lambda rest: first_of(windows_of(rest[:-1]))),
     search("the first place is not looked at", lambda rest: first_of(windows_of(rest[1:]))),
     search("a window needs a fifth run", lambda rest: first_of(windows_of(rest)) if len(rest) > 4 else None),
-    search("all valid runs have to be within the span", lambda rest: first_of(windows_of(rest)) if rest and reckon.is_window(rest) else None),
+    search("all valid runs have to be within the span",
+           lambda rest: first_of(windows_of(rest)) if rest and reckon.is_window(rest) else None),
     search("runs by their levels, not in the sheet's order", lambda rest: first_of(windows_of(sorted(rest, key=lambda run: run[1:3])))),
     search("runs from the last to the first", lambda rest: first_of(windows_of(rest[::-1]))),
     *(search(f"the first {count} places only", lambda rest, count=count: first_of(windows_of(rest[:count + 3])))
@@ -267,8 +265,15 @@ PARTED = [
                 lambda run, vehicle, kind, gear: run.gear == gear and run.kind != kind),
 ]
 
-SPANS = by_edit(*((words, "is_window", "span([run.left for run in four]) <= WIDEST_SPAN and span([run.right for run in four]) <= WIDEST_SPAN", new)
-                  for words, new in (
+SPAN = "span([run.left for run in four]) <= WIDEST_SPAN and span([run.right for run in four]) <= WIDEST_SPAN"
+
+
+def on_both_sides(test):
+    """A test of one side's levels, asked of both."""
+    return f"all({test} for side in ([run.left for run in four], [run.right for run in four]))"
+
+
+SPANS = by_edit(*((words, "is_window", SPAN, new) for words, new in (
     ("span on the sum of sides", "span([run.left + run.right for run in four]) <= WIDEST_SPAN"),
     ("span on the mean of sides", "span([run.left + run.right for run in four]) <= 2 * WIDEST_SPAN"),
     ("span on the louder side", "span([max(run.left, run.right) for run in four]) <= WIDEST_SPAN"),
@@ -276,18 +281,17 @@ SPANS = by_edit(*((words, "is_window", "span([run.left for run in four]) <= WIDE
     ("span on the right alone", "span([run.right for run in four]) <= WIDEST_SPAN"),
     ("span over both sides together", "span([level for run in four for level in (run.left, run.right)]) <= WIDEST_SPAN"),
     ("span on one side or the other", "min(span([run.left for run in four]), span([run.right for run in four])) <= WIDEST_SPAN"),
-    ("span below 2.0", "span([run.left for run in four]) < WIDEST_SPAN and span([run.right for run in four]) < WIDEST_SPAN"),
-    ("span below 2.0 on the left", "span([run.left for run in four]) < WIDEST_SPAN and span([run.right for run in four]) <= WIDEST_SPAN"),
-    ("span below 2.0 on the right", "span([run.left for run in four]) <= WIDEST_SPAN and span([run.right for run in four]) < WIDEST_SPAN"),
-    ("span between neighbours", "all(abs(one.left - two.left) <= 20 and abs(one.right - two.right) <= 20 for one, two in zip(four, four[1:]))"),
-    ("span from the first", "all(abs(one.left - four[0].left) <= 20 and abs(one.right - four[0].right) <= 20 for one in four)"),
-    ("span from the last", "all(abs(one.left - four[-1].left) <= 20 and abs(one.right - four[-1].right) <= 20 for one in four)"),
-    ("span of the first and the last", "abs(four[0].left - four[-1].left) <= 20 and abs(four[0].right - four[-1].right) <= 20"),
-    ("within 2.0 of the mean", "all(abs(4 * one.left - sum(run.left for run in four)) <= 80 and abs(4 * one.right - sum(run.right for run in four)) <= 80 for one in four)"),
-    ("within 1.0 of the mean", "all(abs(4 * one.left - sum(run.left for run in four)) <= 40 and abs(4 * one.right - sum(run.right for run in four)) <= 40 for one in four)"),
+    ("span below 2.0", on_both_sides("span(side) < 20")),
+    ("span below 2.0 on the left", SPAN.replace("<=", "<", 1)),
+    ("span below 2.0 on the right", SPAN.replace("<= WIDEST_SPAN and", "<= 20 and").replace("<= WIDEST", "< WIDEST")),
+    ("span between neighbours", on_both_sides("all(abs(one - two) <= 20 for one, two in zip(side, side[1:]))")),
+    ("span from the first", on_both_sides("all(abs(one - side[0]) <= 20 for one in side)")),
+    ("span from the last", on_both_sides("all(abs(one - side[-1]) <= 20 for one in side)")),
+    ("span of the first and the last", on_both_sides("abs(side[0] - side[-1]) <= 20")),
+    ("within 2.0 of the mean", on_both_sides("all(abs(4 * one - sum(side)) <= 80 for one in side)")),
+    ("within 1.0 of the mean", on_both_sides("all(abs(4 * one - sum(side)) <= 40 for one in side)")),
     ("no span asked", "True"),
-    *((f"span without run {at + 1}", f"span([run.left for run in four[:{at}] + four[{at + 1}:]]) <= 20 and span([run.right for run in four[:{at}] + four[{at + 1}:]]) <= 20")
-      for at in range(4)),
+    *((f"span without run {at + 1}", on_both_sides(f"span(side[:{at}] + side[{at + 1}:]) <= 20")) for at in range(4)),
 )))
 
 
@@ -323,9 +327,11 @@ MEANS = [
     mean_with("the right's mean", lambda left, right: Fraction(sum(right), 4)),
     mean_with("the loudest run", lambda left, right: max(left + right)),
     mean_with("the median of the louder side", lambda left, right: Fraction(sum(sorted(max(left, right, key=sum))[1:3]), 2)),
-    mean_with("the mean of the highest and the lowest", lambda left, right: Fraction(max(max(left) + min(left), max(right) + min(right)), 2)),
+    mean_with("the mean of the highest and the lowest",
+              lambda left, right: Fraction(max(max(left) + min(left), max(right) + min(right)), 2)),
     mean_with("means of the sound powers", lambda left, right: max(decibel_mean(left), decibel_mean(right))),
-    mean_with("both means are rounded, the larger one counts", lambda left, right: max(rounded(Fraction(sum(left), 4)), rounded(Fraction(sum(right), 4)))),
+    mean_with("both means are rounded, the larger one counts",
+              lambda left, right: max(rounded(Fraction(sum(left), 4)), rounded(Fraction(sum(right), 4)))),
     mean_with("means cut to a tenth", lambda left, right: max(sum(left), sum(right)) // 4),
     *(mean_with(f"the mean without run {at + 1}", lambda left, right, at=at: Fraction(
         max(sum(left) - left[at], sum(right) - right[at]), 3)) for at in range(4)),
@@ -344,7 +350,8 @@ ACCELERATIONS = by_edit(
     ("the length from AA' only", "run_acceleration", "c + vehicle.length", "c + (0 if vehicle.from_pp else vehicle.length)"),
     ("speeds in whole km/h", "run_acceleration", "run.end_speed ** 2 - run.start_speed ** 2",
      "(run.end_speed // 10 * 10) ** 2 - (run.start_speed // 10 * 10) ** 2"),
-    ("the square of the difference", "run_acceleration", "run.end_speed ** 2 - run.start_speed ** 2", "(run.end_speed - run.start_speed) ** 2"),
+    ("the square of the difference", "run_acceleration", "run.end_speed ** 2 - run.start_speed ** 2",
+     "(run.end_speed - run.start_speed) ** 2"),
     ("squares by 16 bits", "run_acceleration", "run.end_speed ** 2 - run.start_speed ** 2",
      "run.end_speed ** 2 % 65536 - run.start_speed ** 2 % 65536"),
     ("the product by 31 bits", "run_acceleration", "625 * (run.end_speed ** 2 - run.start_speed ** 2)",
@@ -407,8 +414,9 @@ def names_a_kind(words):
     return any(part in words for part in ("constant", "acceleration", "faster"))
 
 
-KINDS = [(f"{words}, {runs}", for_kind(kind, changes)) for words, changes in CORRECTED + TAKEN + VALID + SIDES + SEARCHES[:18] + PARTED + SPANS
-         if not names_a_kind(words) for runs, kind in (("acceleration runs only", ACCELERATION_RUN), ("constant speed only", CONSTANT_RUN))]
+KINDS = [(f"{words}, {runs}", for_kind(kind, changes))
+         for words, changes in CORRECTED + TAKEN + VALID + SIDES + SEARCHES[:18] + PARTED + SPANS if not names_a_kind(words)
+         for runs, kind in (("acceleration runs only", ACCELERATION_RUN), ("constant speed only", CONSTANT_RUN))]
 
 READINGS = (ROUNDINGS + NOT_ROUNDED + FLOATS + CORRECTED + TAKEN + VALID + SIDES + SEARCHES + FAR + PARTED + SPANS + MEANS + ACCELERATIONS
             + OTHERS + KINDS)
