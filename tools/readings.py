@@ -24,7 +24,7 @@ import window_readings
 from corpus import corpus
 from misread import reading
 
-ENOUGH = 3
+ENOUGH = 2
 LONG = 4000  # bytes
 SECONDS = 60  # for a reading that does not come to an end
 

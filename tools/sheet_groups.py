@@ -172,8 +172,8 @@ def sizes_before_kinds(random):
         yield changed(short, 0, 9)[:32 + extra]
         yield changed(short, 0, 9) + bytes(extra)
         yield with_number(short, 3, 2, 7) + bytes(extra)
-    for value in (9, 0):
-        yield changed(long, 0, value)
+    yield changed(long, 0, 9)
+    yield sheets.closing(1023) * 1025
     for count in (0, 1022):
         yield with_number(long, 1024, 2, count)
 

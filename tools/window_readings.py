@@ -227,6 +227,8 @@ SEARCHES = [
            lambda rest: first_of(windows_of(rest)) if rest and reckon.is_window(rest) else None),
     search("runs by their levels, not in the sheet's order", lambda rest: first_of(windows_of(sorted(rest, key=lambda run: run[1:3])))),
     search("runs from the last to the first", lambda rest: first_of(windows_of(rest[::-1]))),
+]
+PLACES = [
     *(search(f"the first {count} places only", lambda rest, count=count: first_of(windows_of(rest[:count + 3])))
       for count in (*range(1, 41), 63, 127, 254, 255, 256, 500)),
     *(search(f"place {place} is passed over", lambda rest, place=place: first_of(
@@ -415,10 +417,10 @@ def names_a_kind(words):
 
 
 KINDS = [(f"{words}, {runs}", for_kind(kind, changes))
-         for words, changes in CORRECTED + TAKEN + VALID + SIDES + SEARCHES[:18] + PARTED + SPANS if not names_a_kind(words)
+         for words, changes in CORRECTED + TAKEN + VALID + SIDES + SEARCHES + PARTED + SPANS if not names_a_kind(words)
          for runs, kind in (("acceleration runs only", ACCELERATION_RUN), ("constant speed only", CONSTANT_RUN))]
 
-READINGS = (ROUNDINGS + NOT_ROUNDED + FLOATS + CORRECTED + TAKEN + VALID + SIDES + SEARCHES + FAR + PARTED + SPANS + MEANS + ACCELERATIONS
+READINGS = (ROUNDINGS + NOT_ROUNDED + FLOATS + CORRECTED + TAKEN + VALID + SIDES + SEARCHES + PLACES + FAR + PARTED + SPANS + MEANS + ACCELERATIONS
             + OTHERS + KINDS)
 
 # Readings that give the same answer on every sheet, by the reason.
