@@ -204,6 +204,9 @@ def edits():
             yield words if seen[words] == 1 else f"{words} ({seen[words]})", changes
 
 
+READINGS = list(edits())
+
+
 def of(name, *changes):
     return [f"{name}: {change}" for change in changes]
 

@@ -534,17 +534,41 @@ PRINTED = [
 
 READINGS = PMR + LOGARITHMS + FLOATS + DROPPED + GEARS + RULES + NEAR + SPARED + CONSTANT + FACTORS + BY_RULE + PRINTED
 
+
+
+# What the reasons below rest on, to be tried.
+
+def same_for_every_PMR():
+    """a_urban and a_ref by logarithms."""
+    functions = [change for words, changes in LOGARITHMS for change in changes.items() if "-bit" in words]
+    return all(function(q) == PAPER[name](q) for name, function in functions for q in range(50, 6001))
+
+
+def no_kp_half_with_a_ref():
+    """200 x kp is no odd number for a_ref of any PMR."""
+    halves = (200 * PAPER["exact_kp"](PAPER["a_urban_of"](q), PAPER["a_ref_of"](q)) for q in range(CONSTANT_SPEED_PMR, 6001))
+    return all(half % 2 != 1 for half in halves)
+
+
+def no_rule_4_up_to_25():
+    """No acceleration from a_urban on is below R and out of its 5 %."""
+    references = {(PAPER["a_urban_of"](q), PAPER["a_ref_of"](q)) for q in range(50, CONSTANT_SPEED_PMR + 1)}
+    return all(PAPER["is_near"](a, R) for a_urban, R in references for a in range(a_urban, R))
+
+
+TRIED = (same_for_every_PMR, no_kp_half_with_a_ref, no_rule_4_up_to_25)
+
 # Readings that give the same answer on every sheet, by the reason.
 EQUIVALENT = {
-    "tried for each of the 5,951 PMRs": [f"{a} by {size} logarithms" for a in ("a_urban", "a_ref") for size in ("32-bit", "64-bit")],
+    "`same_for_every_PMR` tries all of them": [f"{a} by {size} logarithms" for a in ("a_urban", "a_ref") for size in ("32-bit", "64-bit")],
     "a half is exact, and any other quotient is further from one than its error": ["PMR by 64-bit floats"],
     "the gears up to i are above 3.00, and j is below it: at 3.00 it would be below R 3.01, and rule 2 would have it": [
         "rule 4 up to 3.00", "rule 4 takes j", "rule 4 takes the gear nearest to R below 3.00"],
     "accelerations are whole hundredths": ["rule 2 with 5 % cut"],
     "L(j) is a whole number of tenths, and a half goes up wherever it stands": ["the product is rounded by itself"],
     "1 - a_urban / a' is 0 there": ["kp is 0 at a' = a_urban"],
-    "no PMR has a kp on a half with a_ref": [f"a_urban / a' is rounded first, rule {rule} only" for rule in (3, 5)],
+    "with a_ref no PMR has a kp on a half (`no_kp_half_with_a_ref`)": [f"a_urban / a' is rounded first, rule {rule} only" for rule in (3, 5)],
     "the gear of rule 4 is j, and a(j) is below R": ["a' is at most a_ref, rule 4 only"],
-    "rule 4 needs a(j) from a_urban on and out of 5 % below R: up to PMR 25.0 there is no such a": [
+    "rule 4 needs a(j) from a_urban on and out of 5 % below R: up to PMR 25.0 there is none (`no_rule_4_up_to_25`)": [
         "kp 0 at PMR 25.0, rule 4 only", "kp as it comes below PMR 25.0, rule 4 only"],
 }

@@ -28,12 +28,10 @@ ENOUGH = 2
 LONG = 4000  # bytes
 SECONDS = 60  # for a reading that does not come to an end
 
-SUBJECTS = (("The sheet and the refusals", sheet_readings.READINGS, sheet_readings.EQUIVALENT),
-            ("From levels to windows", window_readings.READINGS, window_readings.EQUIVALENT),
-            ("Gears and L_urban", gear_readings.READINGS, gear_readings.EQUIVALENT),
-            ("Edits of the reckoner", list(edits.edits()), edits.EQUIVALENT))
-READINGS = [one for _, readings, _ in SUBJECTS for one in readings]
-REASONS = {words: reason for _, _, equivalent in SUBJECTS for reason, names in equivalent.items() for words in names}
+SUBJECTS = (sheet_readings, window_readings, gear_readings, edits)
+READINGS = [one for subject in SUBJECTS for one in subject.READINGS]
+REASONS = {words: reason for subject in SUBJECTS for reason, names in subject.EQUIVALENT.items() for words in names}
+TRIED = window_readings.TRIED + gear_readings.TRIED  # what some of the reasons rest on
 
 
 def sheets_in_turn():
@@ -64,8 +62,8 @@ def other_line(sheet):
         return None
 
 
-def telling(changes, enough):
-    """The sheets that tell a reading apart, each with the paper's line and the other; and how many end in an error."""
+def telling(enough):
+    """The sheets that tell the reading apart, each with the paper's line and the other; and how many end in an error."""
     found, errors = [], 0
     for sheet, paper in KNOWN:
         other = other_line(sheet)
@@ -84,7 +82,7 @@ def tried(job):
     signal.alarm(SECONDS if enough else 0)
     try:
         with reading(READINGS[at][1]):
-            found, errors = telling(READINGS[at][1], enough)
+            found, errors = telling(enough)
     except TooSlow:
         return at, 0, None, 1
     finally:
@@ -116,17 +114,18 @@ def report(results, enough, with_sheets):
 
 def main(arguments):
     names = [words for words, _ in READINGS]
-    unknown = sorted(set(REASONS) - set(names)) + [words for words, count in Counter(names).items() if count > 1]
+    faults = [f"no reading: {name}" for name in sorted(set(REASONS) - set(names))]
+    faults += [f"two readings: {name}" for name, count in Counter(names).items() if count > 1]
+    faults += [f"does not hold: {holds.__name__}" for holds in TRIED if not holds()]
     words = " ".join(argument for argument in arguments if not argument.startswith("--"))
     enough = None if "--all" in arguments else ENOUGH
     KNOWN.extend((sheet, reckon.line(sheet)) for sheet in sheets_in_turn())
     jobs = [(at, enough) for at, name in enumerate(names) if words in name]
     with multiprocessing.Pool(os.cpu_count()) as pool:
         totals = report(pool.imap(tried, jobs, chunksize=4), enough, "--sheets" in arguments)
-    for name in unknown:
-        print(f"no reading, or two of this name: {name}")
+    print("".join(fault + "\n" for fault in faults), end="")
     print(f"{sum(totals.values())} readings: " + ", ".join(f"{count} {became}" for became, count in sorted(totals.items())))
-    return 1 if unknown or set(totals) - {"told apart", "equivalent", "error"} else 0
+    return 1 if faults or set(totals) - {"told apart", "equivalent", "error"} else 0
 
 
 if __name__ == "__main__":

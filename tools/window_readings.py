@@ -420,15 +420,28 @@ KINDS = [(f"{words}, {runs}", for_kind(kind, changes))
          for words, changes in CORRECTED + TAKEN + VALID + SIDES + SEARCHES + PARTED + SPANS if not names_a_kind(words)
          for runs, kind in (("acceleration runs only", ACCELERATION_RUN), ("constant speed only", CONSTANT_RUN))]
 
-READINGS = (ROUNDINGS + NOT_ROUNDED + FLOATS + CORRECTED + TAKEN + VALID + SIDES + SEARCHES + PLACES + FAR + PARTED + SPANS + MEANS + ACCELERATIONS
-            + OTHERS + KINDS)
+READINGS = (ROUNDINGS + NOT_ROUNDED + FLOATS + CORRECTED + TAKEN + VALID + SIDES + SEARCHES + PLACES + FAR + PARTED + SPANS + MEANS
+            + ACCELERATIONS + OTHERS + KINDS)
+
+
+
+# What the reasons below rest on, to be tried.
+
+def same_for_every_sum():
+    """A condition's level by floats, for every sum of four levels."""
+    windows = [tuple(reckon.ValidRun(0, (total + at) // 4, 0, 0, 0) for at in range(4)) for total in range(4 * 195, 4 * 1400 + 1)]
+    functions = [changes["condition_level"] for _, changes in FLOATS if "condition_level" in changes]
+    return all(function(window) == PAPER["condition_level"](window) for function in functions for window in windows)
+
+
+TRIED = (same_for_every_sum,)
 
 # Readings that give the same answer on every sheet, by the reason.
 EQUIVALENT = {
     "nothing that is rounded is below zero": [f"{step}: a half goes away from zero" for _, step in STEPS],
     "a mean of four is a quarter: to a tenth it goes to the side that it goes to at once": [
         "a condition's level: is rounded to a tenth of its unit first", "a gear's acceleration: is rounded to a tenth of its unit first"],
-    "a quarter is exact in a float, and tried for every sum of four": [
+    "a quarter is exact in a float, and `same_for_every_sum` tries its tenth": [
         f"a {what} by {size} floats" for what in ("gear's acceleration", "condition's level") for size in ("32-bit", "64-bit")],
     "ten times a 32-bit float is exact in 64 bits": ["a level by 64-bit floats"],
     "a half is exact, and any other quotient is further from one than its error": ["a run's acceleration by 64-bit floats"],
