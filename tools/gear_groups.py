@@ -426,3 +426,15 @@ def rule_2_kp_halves(random):
     for q, a in ((294, 96), (409, 120), (707, 160), (1096, 192), (1223, 200), (1316, 200)):
         gears = [Gear(3, first_above(a_ref_of(q)) + 20, 740), Gear(4, a, 720, 640)]
         yield sheet_of(random, dict(power=q, mass=1000), gears, plain=True)
+
+
+def rule_4_levels(random):
+    """Rule 4 with W below C, and with a kp half-way between two hundredths."""
+    for q, a_i, a_j in ((667, 320, 120), (1000, 310, 150), (1500, 305, 170)):
+        yield sheet_of(random, dict(power=q, mass=1000), [Gear(3, a_i, 740, 660), Gear(4, a_j, 640, 655)], plain=True)
+    for q in (667, 1000, 1300, 1500, 1700, 2000, 2500, 3000):
+        a_urban, R = references(q)
+        for a_j in range(a_urban, first_below(R) + 1):
+            if is_kp_half(a_urban, a_j):
+                gears = [Gear(3, first_above(R) + 200, 740, 660), Gear(4, a_j, 720, 640)]
+                yield sheet_of(random, dict(power=q, mass=1000), gears, plain=True)

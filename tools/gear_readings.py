@@ -567,7 +567,8 @@ EQUIVALENT = {
     "accelerations are whole hundredths": ["rule 2 with 5 % cut"],
     "L(j) is a whole number of tenths, and a half goes up wherever it stands": ["the product is rounded by itself"],
     "1 - a_urban / a' is 0 there": ["kp is 0 at a' = a_urban"],
-    "with a_ref no PMR has a kp on a half (`no_kp_half_with_a_ref`)": [f"a_urban / a' is rounded first, rule {rule} only" for rule in (3, 5)],
+    "with a_ref no PMR has a kp on a half (`no_kp_half_with_a_ref`)": [
+        f"a_urban / a' is rounded first, rule {rule} only" for rule in (3, 5)],
     "the gear of rule 4 is j, and a(j) is below R": ["a' is at most a_ref, rule 4 only"],
     "rule 4 needs a(j) from a_urban on and out of 5 % below R: up to PMR 25.0 there is none (`no_rule_4_up_to_25`)": [
         "kp 0 at PMR 25.0, rule 4 only", "kp as it comes below PMR 25.0, rule 4 only"],
