@@ -17,7 +17,7 @@ fn read_length(fd: i32) -> usize {
 
 // Prints the line of a sheet; answers whether it was written.
 fn print_line(sheet: &[u8]) -> bool {
-    let mut line = [0u8; program::LINE];
+    let mut line = [0u8; program::LINE_ROOM];
     match program::print_line(sheet, &mut line, STDOUT_FILENO) {
         Transfer::Bytes(_) => true,
         Transfer::Failed => false,

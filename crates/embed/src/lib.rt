@@ -30,7 +30,7 @@ pub extern "C" fn ruthimpo_line(sheet: &[u8], out: &mut [u8]) -> usize
     ensures size { λ r. ⌜ r ≡ length (printedOf (now (sheet .entry)) (length (now (out .entry)))) ⌝ }
     ensures bytes { λ _. ⌜ now (out .exit) ≡ onto (printedOf (now (sheet .entry)) (length (now (out .entry)))) (now (out .entry)) ⌝ }
 {
-    if out.len() < 276 {
+    if out.len() < line::ROOM {
         return 0;
     }
     line::sheet_line(sheet, out)

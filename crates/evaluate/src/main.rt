@@ -5,16 +5,15 @@ use libc::STDOUT_FILENO;
 use program::Ending;
 
 fn evaluate_input() {
-    let mut sheet = [0u8; program::ROOM];
-    let mut line = [0u8; program::LINE];
+    let mut sheet = [0u8; program::SHEET_ROOM];
+    let mut line = [0u8; program::LINE_ROOM];
     match program::run(STDIN_FILENO, STDOUT_FILENO, &mut sheet, &mut line) {
         Ending::Printed {
             read: _,
-            last: _,
             written: _,
         } => {}
         Ending::NotRead => os::fail(b"read"),
-        Ending::NotWritten { read: _, last: _ } => os::fail(b"write"),
+        Ending::NotWritten { read: _ } => os::fail(b"write"),
     }
 }
 
@@ -23,7 +22,7 @@ fn main() {
     if os::arg_count() > 1 {
         io::write_all(
             STDERR_FILENO,
-            b"evaluate: takes no words; lend the sheet on standard input: evaluate < SHEET\n",
+            b"evaluate: takes no file name and no option; give it the sheet on standard input: evaluate < SHEET\n",
         );
         return;
     }

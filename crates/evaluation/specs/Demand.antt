@@ -74,7 +74,7 @@ isChosen s n = among n (chosenRuns s)
 unfoldable pub ofLevel : List ℕ → ℕ → Bool
 ofLevel s m = let kind = byte (recordAt s (m / 32)) 0 in (eqb kind 2 || eqb kind 3) && leb 8 (m % 32) && ltb (m % 32) 16
 
--- only runs' levels are changed: the sheets are alike in every byte but those of the floats
+-- two sheets of one length, in which no byte differs but those of runs' floats
 pub record OnlyLevels (s s′ : List ℕ) : Type 0 where
   pub size : length s ≡ length s′
   pub alike : (m : ℕ) → ofLevel s m ≡ false → getD s m 0 ≡ getD s′ m 0
@@ -83,7 +83,7 @@ pub record OnlyLevels (s s′ : List ℕ) : Type 0 where
 unfoldable pub floatAt : List ℕ → ℕ → ℕ → Float
 floatAt s n at = ofBits binary32 (number (recordAt s n) at 4)
 
--- the level of run n is lower in the second sheet: its left or its right float has a smaller value there
+-- run n is quieter in the second sheet, on its left or on its right, by the values of the floats
 unfoldable pub lower : List ℕ → List ℕ → ℕ → Bool
 lower s s′ n = lt (floatAt s′ n 8) (floatAt s n 8) || lt (floatAt s′ n 12) (floatAt s n 12)
 

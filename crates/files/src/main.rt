@@ -14,16 +14,15 @@ fn print(text: &[u8]) {
 
 // The job on two descriptors; prints what became of it where no line is printed.
 fn run(input: i32, output: i32) {
-    let mut sheet = [0u8; program::ROOM];
-    let mut line = [0u8; program::LINE];
+    let mut sheet = [0u8; program::SHEET_ROOM];
+    let mut line = [0u8; program::LINE_ROOM];
     match program::run(input, output, &mut sheet, &mut line) {
         Ending::Printed {
             read: _,
-            last: _,
             written: _,
         } => {}
         Ending::NotRead => print(b"NOT READ\n"),
-        Ending::NotWritten { read: _, last: _ } => print(b"NOT WRITTEN\n"),
+        Ending::NotWritten { read: _ } => print(b"NOT WRITTEN\n"),
     }
 }
 

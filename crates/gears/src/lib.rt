@@ -76,7 +76,7 @@ fn distance(x: Hundredths, y: Hundredths) -> Hundredths
     }
 }
 
-// Whether rule 2 is for an acceleration; R is a_ref.
+// Whether an acceleration is near enough to R, which is a_ref, and low enough for rule 2.
 fn is_near(a_ref: Hundredths, x: Hundredths) -> bool
     ensures { λ r. ⌜ r ≡ near («a_ref» .0) (x .0) ⌝ }
 {
@@ -90,7 +90,7 @@ struct Best {
     distance: Hundredths,
 }
 
-// Farther from R than any gear that rule 2 is for.
+// Farther from R than any gear that rule 2 can take.
 const FARTHEST: Hundredths = Hundredths(65535);
 
 // The gear at `place`, with the acceleration x, taken into account.

@@ -7,6 +7,9 @@ ghost use Rattle.result.specs.Result.{outcomeIn, fieldsOf};
 ghost use Rattle.text.specs.Text.{onto};
 ghost use Rattle.line.specs.Line.{lineOf, lineOfSheet};
 
+// Room for a line: the word, 13 numbers of at most 20 digits, their spaces and the line feed.
+pub const ROOM: usize = 276;
+
 // The 13 fields of the result record as they are printed, pass last.
 fn fields_of(result: &[u8]) -> [u64; 13]
     requires { ⌜ 32 ≤ length (now result) ⌝ }

@@ -27,6 +27,6 @@ unfolding answerOf answerBy decisionOf decideBy
 long-refused s h = ap (λ (e : Examination). answerBy (decideBy s e)) (row-2 s (too-long s h))
 
 -- what the program owes of n bytes that it has read into its room and whose line it has laid out
-pub evaluated : (n last : ℕ) (sheet before after : List ℕ) → n ≤ length sheet → (n < length sheet → last ≡ 0) → length sheet ≡ 32769 → after ≡ onto (lineOfSheet (take n sheet)) before → Evaluated sheet n last before after
-evaluated n last sheet before after h ended room l =
-    record { within = h; ended = ended; laid = l; full = λ e. long-refused (take n sheet) (rw (length-take-le n sheet h) (omega arith)) }
+pub evaluated : (n : ℕ) (sheet before after : List ℕ) → n ≤ length sheet → length sheet ≡ 32769 → after ≡ onto (lineOfSheet (take n sheet)) before → Evaluated sheet n before after
+evaluated n sheet before after h room l =
+    record { within = h; laid = l; full = λ e. long-refused (take n sheet) (rw (length-take-le n sheet h) (omega arith)) }

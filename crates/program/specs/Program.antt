@@ -2,7 +2,7 @@
 use mathlib.Core.Path.{_≡_}
 use mathlib.Core.Bool.{Bool, false, _&&_}
 use mathlib.Core.List.{List}
-use Prim.Native.Nat.{ℕ, _≤_, _<_}
+use Prim.Native.Nat.{ℕ, _≤_}
 use lib.Dec.{eqb}
 use lib.IntN.{ℤ, pos, negsuc}
 use lib.Signed.{ltZ}
@@ -14,9 +14,6 @@ use Rattle.text.specs.Text.{onto}
 use Rattle.line.specs.Line.{lineOfSheet}
 use Rattle.program.specs.declared.Transfer.{Transfer}
 use Rattle.program.specs.declared.Transfer.the-variants.{Bytes, Failed}
-use Rattle.program.specs.declared.Input.{Input}
-use Rattle.program.specs.declared.Input.the-variants as input
-use Rattle.program.specs.declared.Input.the-variants.{Read}
 use Rattle.program.specs.declared.Ending.{Ending}
 use Rattle.program.specs.declared.Ending.the-variants.{Printed, NotRead, NotWritten}
 
@@ -44,21 +41,15 @@ abbrev pub Exactly : ℕ → Transfer → Type 0
 Exactly size (Bytes n) = n ≡ size
 Exactly size Failed = Unit {0}
 
--- no more bytes than there is room for, and where there is room left, the last read moved none; or a failure
-abbrev pub ToTheEnd : ℕ → Input → Type 0
-ToTheEnd room (Read n last) = (n ≤ room) × (n < room → last ≡ 0)
-ToTheEnd room input.Failed = Unit {0}
-
--- The first n of the lent bytes were read to the end of the input, which is where a read moves no byte, and their line is laid out on the bytes
--- lent for it. An input that fills the room may go on; it is refused for its size.
-pub record Evaluated (sheet : List ℕ) (n last : ℕ) (before after : List ℕ) : Type 0 where
+-- The first n of the lent bytes were counted as read, and their line is laid out on the bytes lent for it. An input that fills the room may go on;
+-- it is refused for its size.
+pub record Evaluated (sheet : List ℕ) (n : ℕ) (before after : List ℕ) : Type 0 where
   pub within : n ≤ length sheet
-  pub ended : n < length sheet → last ≡ 0
   pub laid : after ≡ onto (lineOfSheet (take n sheet)) before
   pub full : n ≡ length sheet → answerOf (take n sheet) 32 ≡ Refused WrongSize
 
 -- A line is printed if as many bytes were written as the line of the bytes read has. If they were not read, no line is laid out.
 abbrev pub Ran : List ℕ → List ℕ → List ℕ → Ending → Type 0
-Ran sheet before after (Printed n last k) = Evaluated sheet n last before after × (k ≡ length (lineOfSheet (take n sheet)))
-Ran sheet before after (NotWritten n last) = Evaluated sheet n last before after
+Ran sheet before after (Printed n k) = Evaluated sheet n before after × (k ≡ length (lineOfSheet (take n sheet)))
+Ran sheet before after (NotWritten n) = Evaluated sheet n before after
 Ran sheet before after NotRead = after ≡ before

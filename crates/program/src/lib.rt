@@ -1,19 +1,18 @@
 // The evaluation program's whole job: a sheet is read from one descriptor to its end and evaluated, and its line is written to another.
 //
-// No contract can say which bytes the system reads or writes. These say what an answer of the system means, where a piece that is read goes,
-// and which line is laid out for the bytes that were read.
+// No contract can say what the system reads, writes and answers. These say what an answer means, how many bytes there is room for, and which line
+// is laid out for the bytes that were counted.
 ghost use mathlib.Core.Path.{_≡_};
 ghost use Prim.Native.Nat.{_-_, _≤_};
 ghost use lib.ListN.{length, take};
 ghost use Rattle.text.specs.Text.{onto};
 ghost use Rattle.line.specs.Line.{lineOfSheet};
-ghost use Rattle.program.specs.Program.{transferOf, interruptedBy, Within, Exactly, ToTheEnd, Ran};
+ghost use Rattle.program.specs.Program.{transferOf, interruptedBy, Within, Exactly, Ran};
 
 // Room for a sheet: one byte more than the longest, so that a longer input is refused for its size.
-pub const ROOM: usize = 32769;
+pub const SHEET_ROOM: usize = 32769;
 
-// Room for a line.
-pub const LINE: usize = 276;
+pub const LINE_ROOM: usize = line::ROOM;
 
 // What a call of read or write came to: how many bytes it moved, or that it failed.
 pub enum Transfer {
@@ -21,24 +20,11 @@ pub enum Transfer {
     Failed,
 }
 
-// What reading to the end came to: how many bytes were read in all and by the last read, or that a read failed.
-pub enum Input {
-    Read { read: usize, last: usize },
-    Failed,
-}
-
-// What became of the job: how many bytes were read, in all and by the last read, and written.
+// What became of the job, with the numbers of bytes that were read and written.
 pub enum Ending {
-    Printed {
-        read: usize,
-        last: usize,
-        written: usize,
-    },
+    Printed { read: usize, written: usize },
     NotRead,
-    NotWritten {
-        read: usize,
-        last: usize,
-    },
+    NotWritten { read: usize },
 }
 
 // What the answer of read or write means.
@@ -82,25 +68,22 @@ fn read_on(fd: i32, sheet: &mut [u8], at: usize) -> Transfer
     read_piece(fd, &mut sheet[at..])
 }
 
-// Reads until the sheet is full or the input ends: a read of no bytes is the end, one that fails is a failure.
-fn read_sheet(fd: i32, sheet: &mut [u8]) -> Input
-    ensures { λ r. ⌜ ToTheEnd (length (now (sheet .entry))) r ⌝ }
+// Reads until the input ends or the sheet is full: a read of no bytes is the end, one that fails is a failure.
+fn read_sheet(fd: i32, sheet: &mut [u8]) -> Transfer
+    ensures { λ r. ⌜ Within (length (now (sheet .entry))) r ⌝ }
 {
     let mut at = 0;
-    // No read yet: only a read at the end of the input makes it 0.
-    let mut last = 1;
     while at < sheet.len() {
         let piece = read_on(fd, sheet, at);
         let Transfer::Bytes(n) = piece else {
-            return Input::Failed;
+            return piece;
         };
-        last = n;
-        if last == 0 {
+        if n == 0 {
             break;
         }
         at += n;
     }
-    Input::Read { read: at, last }
+    Transfer::Bytes(at)
 }
 
 // Writes once, and again as long as a signal interrupts it; the turns are counted down as in `read_piece`.
@@ -135,7 +118,7 @@ fn write_whole(fd: i32, bytes: &[u8]) -> Transfer
 }
 
 // Evaluates a sheet, lays out its line and writes it.
-pub fn print_line(sheet: &[u8], line: &mut [u8; LINE], output: i32) -> Transfer
+pub fn print_line(sheet: &[u8], line: &mut [u8; LINE_ROOM], output: i32) -> Transfer
     ensures laid { λ _. ⌜ now (line .exit) ≡ onto (lineOfSheet (now (sheet .entry))) (now (line .entry)) ⌝ }
     ensures exactly { λ r. ⌜ Exactly (length (lineOfSheet (now (sheet .entry)))) r ⌝ }
 {
@@ -145,21 +128,22 @@ pub fn print_line(sheet: &[u8], line: &mut [u8; LINE], output: i32) -> Transfer
 }
 
 // Reads a sheet to the end of the input, evaluates it and prints its line.
-pub fn run(input: i32, output: i32, sheet: &mut [u8; ROOM], line: &mut [u8; LINE]) -> Ending
+pub fn run(
+    input: i32,
+    output: i32,
+    sheet: &mut [u8; SHEET_ROOM],
+    line: &mut [u8; LINE_ROOM],
+) -> Ending
     ensures { λ r. ⌜ Ran (now (sheet .exit)) (now (line .entry)) (now (line .exit)) r ⌝ }
 {
     let got = read_sheet(input, sheet);
-    let Input::Read { read, last } = got else {
+    let Transfer::Bytes(read) = got else {
         return Ending::NotRead;
     };
     let bytes: &[u8] = sheet;
     let put = print_line(&bytes[..read], line, output);
     let Transfer::Bytes(written) = put else {
-        return Ending::NotWritten { read, last };
+        return Ending::NotWritten { read };
     };
-    Ending::Printed {
-        read,
-        last,
-        written,
-    }
+    Ending::Printed { read, written }
 }

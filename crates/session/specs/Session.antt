@@ -105,7 +105,7 @@ windowsOf t = map (λ (e : Entry). e .window) (remaining t)
 abbrev pub stored : {A : Type 0} → A → List A → List A
 stored filler xs = xs ++ replicate (16 - length xs) filler
 
--- those that remain below the lowest gear without a window: all that remain, if each gear has one
+-- those that remain below the lowest gear with an acceleration run and no window: all that remain, if there is none such
 unfoldable pub entriesOf : Session → List Entry
 entriesOf t = remainingFrom t 0 (lowestNoWindow t)
 

@@ -106,8 +106,8 @@ fn state_of(sheet: &[u8], track: Track, gear: u8, here: bool) -> State
     }
 }
 
-// The gears that remain, in rising number, each with its acceleration window: the first `count` of both arrays. If a gear has no window,
-// `no_window` is the place of the lowest such gear, gear p + 1 at place p, and the arrays hold the gears below it; else it is 16.
+// The gears that remain, in rising number, each with its acceleration window: the first `count` of both arrays. If a gear has acceleration runs
+// and no window, `no_window` is the place of the lowest such gear, gear p + 1 at place p, and the arrays hold the gears below it; else it is 16.
 pub struct Table {
     pub gears: [Gear; 16],
     pub windows: [Four; 16],

@@ -9,10 +9,10 @@ use Rattle.program.proofs.read_sheet.Statement.{statement}
 use Rattle.program.proofs.read_sheet.Tie as tie
 
 abbrev Inv-loop : tie.InvT-loop
-Inv-loop fd sheet₀ at₀ last₀ sheet at last = (length sheet ≡ length sheet₀) × (at ≤ length sheet₀)
+Inv-loop fd sheet₀ at₀ sheet at = (length sheet ≡ length sheet₀) × (at ≤ length sheet₀)
 
 abbrev μ-loop : tie.MeasureT-loop
-μ-loop fd sheet₀ at₀ last₀ sheet at last = length sheet₀ - at
+μ-loop fd sheet₀ at₀ sheet at = length sheet₀ - at
 
 loop-holds : tie.Need-loop-holds Inv-loop μ-loop
 loop-holds c = omega arith
@@ -30,7 +30,7 @@ same-length : tie.Need-same-length Inv-loop μ-loop
 same-length c = search needs
 
 returns : tie.Need-returns Inv-loop μ-loop
-returns c = search needs
+returns c = rw (c .enum-told .given .1) tt
 
 add-at : tie.Need-add-at Inv-loop μ-loop
 add-at c = omega (arith, rw (c .before .before .piece .given .1) at (c .before .before .before .before .before .before .read-on .ensures .0))
@@ -45,13 +45,13 @@ same-length-2 : tie.Need-same-length-2 Inv-loop μ-loop
 same-length-2 c = search needs
 
 returns-2 : tie.Need-returns-2 Inv-loop μ-loop
-returns-2 c = omega arith
+returns-2 c = search needs
 
 same-length-3 : tie.Need-same-length-3 Inv-loop μ-loop
 same-length-3 c = search needs
 
 returns-3 : tie.Need-returns-3 Inv-loop μ-loop
-returns-3 c = omega arith
+returns-3 c = search needs
 
 pub read-sheet-spec : {M : Type 1} → statement M
 read-sheet-spec =

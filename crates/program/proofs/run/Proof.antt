@@ -22,7 +22,7 @@ returns c = search needs
 slice-aggregate-print-line : tie.Need-slice-aggregate-print-line
 slice-aggregate-print-line c =
     let r = c .before .before .before .before .before .before .read-sheet in
-    sym (length-take-le _ (r .last .1 .0) (omega (arith, (rw (c .before .before .before .before .got .given .1) at (r .ensures)) .0, r .kept .1 .0)))
+    sym (length-take-le _ (r .last .1 .0) (omega (arith, rw (c .before .before .before .before .got .given .1) at (r .ensures), r .kept .1 .0)))
 
 print-line-requires : tie.Need-print-line-requires
 print-line-requires c κs = search needs
@@ -37,14 +37,14 @@ returns-2 : tie.Need-returns-2
 returns-2 c =
     let r = c .before .before .before .before .before .before .before .before .before .before .read-sheet in
     let h = rw (c .before .before .before .before .before .before .before .before .got .given .1) at (r .ensures) in
-    evaluated _ _ (r .last .1 .0) _ _ (omega (arith, h .0, r .kept .1 .0)) (λ l. h .1 (omega (arith, l, r .kept .1 .0))) (c .before .before .before .before .before .bytes2 .given .0) (c .before .before .print-line .ensures .0)
+    evaluated _ (r .last .1 .0) _ _ (omega (arith, h, r .kept .1 .0)) (c .before .before .before .before .before .bytes2 .given .0) (c .before .before .print-line .ensures .0)
 
 returns-3 : tie.Need-returns-3
 returns-3 c =
     let r = c .before .before .before .before .before .before .before .before .before .before .before .read-sheet in
     let p = c .before .before .before .print-line in
     let h = rw (c .before .before .before .before .before .before .before .before .before .got .given .1) at (r .ensures) in
-    (evaluated _ _ (r .last .1 .0) _ _ (omega (arith, h .0, r .kept .1 .0)) (λ l. h .1 (omega (arith, l, r .kept .1 .0))) (c .before .before .before .before .before .before .bytes2 .given .0) (p .ensures .0), rw (c .before .put .given .1) at (p .ensures .1))
+    (evaluated _ (r .last .1 .0) _ _ (omega (arith, h, r .kept .1 .0)) (c .before .before .before .before .before .before .bytes2 .given .0) (p .ensures .0), rw (c .before .put .given .1) at (p .ensures .1))
 
 pub run-spec : {M : Type 1} → statement M
 run-spec =
