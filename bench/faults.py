@@ -5,10 +5,12 @@
 
 Prints a line for each case, and fails if one differs from what is expected:
 
-    a fault of reading    nothing on standard output, one line on standard error that names the error
-    a fault of writing    no whole line on standard output, one line on standard error that names the error
-    no fault              the reckoner's line, however slowly, in whatever pieces and with whatever interruptions
-    any word              nothing on standard output, one line on standard error that points to standard input
+    a fault of reading       nothing on standard output, one line on standard error that names the error
+    a fault of writing       no whole line on standard output, one line on standard error that names the error;
+                             or the program is ended by SIGPIPE, for a pipe whose reader has gone
+    standard error closed    the same, but without the line on standard error
+    no fault                 the reckoner's line, however slowly, in whatever pieces and with whatever interruptions
+    any word                 nothing on standard output, one line on standard error that points to standard input
 
 The real faults come from the system; the shim adds those that it cannot be made to give at every place.
 """

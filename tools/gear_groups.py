@@ -438,3 +438,15 @@ def rule_4_levels(random):
             if is_kp_half(a_urban, a_j):
                 gears = [Gear(3, first_above(R) + 200, 740, 660), Gear(4, a_j, 720, 640)]
                 yield sheet_of(random, dict(power=q, mass=1000), gears, plain=True)
+
+
+def kp_rounded_first(random):
+    """A pair of rule 3 and one of rule 5 whose L_urban is another one if kp is not rounded before it."""
+    for q in (400, 667, 1000, 1500, 2500, 4000):
+        a_urban, R = references(q)
+        kp, exact = Fraction(kp_of(a_urban, R), 100), 1 - Fraction(a_urban, R)
+        levels = [(W, C) for W in range(680, 720) for C in range(600, 660)
+                  if rounded((W - kp * (W - C)) / 10) != rounded((W - exact * (W - C)) / 10)]
+        for a_i, a_j in ((first_above(R), first_below(R)), (first_above(R) + 200, a_urban - 10)):
+            W, C = random.pick(levels)
+            yield sheet_of(random, dict(power=q, mass=1000), [Gear(3, a_i, W, C), Gear(4, a_j, W, C)], plain=True)

@@ -6,7 +6,8 @@
         --sheets adds the first such sheet with both lines
 
 Readings that answer every sheet as the paper does are listed with the reason. The command fails if one of these is told
-apart, or if any other is not. What only ends in errors of its own is no reading; such edits of the reckoner are counted.
+apart, or if any other is not told apart by two sheets. An edit of the reckoner that only ends in errors of its own is no
+reading: it is counted. A reading written by hand that does so fails the command.
 """
 
 import multiprocessing
@@ -28,6 +29,7 @@ ENOUGH = 2
 LONG = 4000  # bytes
 SECONDS = 60  # for a reading that does not come to an end
 
+EDITS = {words for words, _ in edits.READINGS}
 SUBJECTS = (sheet_readings, window_readings, gear_readings, edits)
 READINGS = [one for subject in SUBJECTS for one in subject.READINGS]
 REASONS = {words: reason for subject in SUBJECTS for reason, names in subject.EQUIVALENT.items() for words in names}
@@ -92,10 +94,14 @@ def tried(job):
 
 
 def verdict(words, count, errors):
-    """What became of a reading: told apart, equivalent, an error; or what should not be."""
+    """What became of a reading: told apart, equivalent, an edit's error; or what should not be."""
     if words in REASONS:
         return "CALLED EQUIVALENT, TOLD APART" if count or errors else "equivalent"
-    return "told apart" if count else "error" if errors else "NOT TOLD APART"
+    if count:
+        return "told apart" if count >= ENOUGH else "TOLD APART BY ONE ONLY"
+    if errors:
+        return "error" if words in EDITS else "ERRORS ONLY"
+    return "NOT TOLD APART"
 
 
 def report(results, enough, with_sheets):

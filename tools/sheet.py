@@ -5,8 +5,8 @@
     python3 tools/sheet.py show --csv SHEET       the records as a table
     python3 tools/sheet.py make TABLE > SHEET     the sheet of a table, byte for byte; nothing if a cell cannot be read
 
-A dash stands for standard input. The table has a row for each record and a column for each field; a column may be left
-out. A blank cell is zero bytes, but in "number of runs" it is all records less two. The other cells:
+A dash stands for standard input. The table has a row for each record and a column for each field, in any order. A blank
+level is four zero bytes, as an absent reading has; every other field of the row's kind needs its cell. The cells:
 
     words          kind, category, start line, struck and readings, as `show` prints them; a byte with no word is its number
     numbers        in the column's unit, with a decimal point: 44.2
@@ -432,21 +432,26 @@ def left_over_of(cells):
     return groups[0][1]
 
 
-def record_of(cells, runs):
-    """The record of a row, in a table of so many runs."""
+def field_bytes(cells, field):
+    """The bytes of a field. A level alone may be blank."""
+    part = read_cell(cells, field.column(), field.bytes_of)
+    if part is None and not isinstance(field, Level):
+        raise Unreadable(f"column {field.column()!r} is blank")
+    return part or bytes(field.size)
+
+
+def record_of(cells):
+    """The record of a row."""
     if KIND.name not in cells:
         raise Unreadable(f"column {KIND.name!r} is blank")
     if cells[KIND.name] == LEFT_OVER:
         return left_over_of(cells)
     record = bytearray(RECORD_BYTES)
     record[0:1] = read_cell(cells, KIND.name, KIND.bytes_of)
-    if record[0] == CLOSING:
-        cells = {RUNS.column(): str(runs), **cells}
     fields = fields_of(record[0])
     refuse_others(cells, [field.column() for field in fields])
     for field in fields:
-        part = read_cell(cells, field.column(), field.bytes_of)
-        record[field.at:field.at + field.size] = part or bytes(field.size)
+        record[field.at:field.at + field.size] = field_bytes(cells, field)
     read_cell(cells, OTHER_BYTES, lambda cell: put_groups(record, cell, unnamed(record[0])))
     return bytes(record)
 
@@ -454,14 +459,13 @@ def record_of(cells, runs):
 def sheet_of(text):
     """The sheet of a table; Unreadable names every row that cannot be read."""
     rows = list(rows_of(text))
-    kinds = [cells.get(KIND.name) for _, cells in rows]
-    runs = max(len(rows) - kinds.count(LEFT_OVER) - 2, 0)
     records, unreadable = [], []
     for at, cells in rows:
         try:
-            records.append(record_of(cells, runs))
+            records.append(record_of(cells))
         except Unreadable as why:
             unreadable.append(f"row {at}, {why}")
+    kinds = [cells.get(KIND.name) for _, cells in rows]
     if LEFT_OVER in kinds[:-1]:
         unreadable.append(f"row {rows[kinds.index(LEFT_OVER)][0]}, column {KIND.name!r}: {LEFT_OVER!r} stands in the last row only")
     if unreadable:

@@ -21,17 +21,17 @@ from sheet import FIELDS, Unreadable, faults_of, level_bytes, level_cell, sheet_
 TOOL = os.path.join(os.path.dirname(os.path.abspath(__file__)), "sheet.py")
 LONGEST_RANDOM = 200  # bytes
 
-# A table as a crew may write it: columns in an order of their own, blank rows and cells, and no count of the runs.
+# A table as a crew may write it: columns in an order of their own, blank rows, and a blank level of an absent reading.
 HEADER = ("kind,gear,left reading,left level [dB(A)],right reading,right level [dB(A)],struck,speed at the start line [km/h],"
           "speed at BB' [km/h],highest engine speed [per minute],category,start line,power [kW],mass in running order [kg],"
-          "length [cm],rated engine speed [per minute],background before [dB(A)],limit [dB(A)],background after [dB(A)]")
+          "length [cm],rated engine speed [per minute],background before [dB(A)],limit [dB(A)],background after [dB(A)],number of runs")
 BY_HAND = f"""{HEADER}
-vehicle,,,,,,,,,,N1,PP',86.5,2049,450,5500,40.3,72,
-,,,,,,,,,,,,,,,,,,
-acceleration run,3,level,72.25,overload,139.9,,44.2,54.5,4000
-constant-speed run,4,,,level,65.1875,yes,50,50.0,
+vehicle,,,,,,,,,,N1,PP',86.5,2049,450,5500,40.3,72,,
+,,,,,,,,,,,,,,,,,,,
+acceleration run,3,level,72.25,overload,139.9,no,44.2,54.5,4000
+constant-speed run,4,absent,,level,65.1875,yes,50,50.0,0
 
-closing,,,,,,,,,,,,,,,,,,38
+closing,,,,,,,,,,,,,,,,,,38,2
 """
 FROM_HAND = sheets.sheet(
     sheets.vehicle(2, 1, 865, 2049, 450, 5500, 403, 72),
@@ -44,7 +44,7 @@ LEVEL_CELLS = ((0x42908000, "72.25"), (0x42940000, "74.0"), (0x430BE666, "139.9"
                (0xFF800000, "0xFF800000"), (0x00000001, "0x00000001"))
 
 # Rows under that header, or headers, that cannot be read, and where the message must say the fault is.
-VEHICLE_ROW, RUN_ROW = BY_HAND.splitlines()[1], BY_HAND.splitlines()[3]
+VEHICLE_ROW, _, RUN_ROW, ABSENT_ROW, _, CLOSING_ROW = BY_HAND.splitlines()[1:]
 UNREADABLE = (
     (f"{HEADER}\n{RUN_ROW.replace('44.2', '44.25')}", "row 2, column 'speed at the start line [km/h]': '44.25' "),
     (f"{HEADER}\n{RUN_ROW.replace('44.2', '6553.6')}", "row 2, column 'speed at the start line [km/h]': '6553.6' "),
@@ -56,20 +56,32 @@ UNREADABLE = (
     (f"{HEADER}\n{RUN_ROW.replace('run,3', 'run,256')}", "row 2, column 'gear': '256' "),
     (f"{HEADER}\n{RUN_ROW.replace('overload', 'over')}", "row 2, column 'right reading': 'over' "),
     (f"{HEADER}\n{RUN_ROW.replace('acceleration', 'slow')}", "row 2, column 'kind': 'slow run' "),
-    (f"{HEADER}\n{RUN_ROW.replace('acceleration run', '')}", "row 2, column 'kind' "),
     (f"{HEADER}\n{VEHICLE_ROW.replace('vehicle,', 'vehicle,3')}", "row 2, column 'gear': '3' "),
     (f"{HEADER}\n{VEHICLE_ROW},1", "row 2: "),
     (f"{HEADER},colour\n", "row 1: 'colour' "),
     (f"{HEADER},kind\n", "row 1: 'kind' "),
-    ("kind,other bytes\nvehicle,4=01", "row 2, column 'other bytes': '4=01' "),
-    ("kind,other bytes\nvehicle,31=0102", "row 2, column 'other bytes': '31=0102' "),
+    (f"{HEADER},other bytes\n{VEHICLE_ROW},4=01", "row 2, column 'other bytes': '4=01' "),
+    (f"{HEADER},other bytes\n{VEHICLE_ROW},31=0102", "row 2, column 'other bytes': '31=0102' "),
     ("kind,other bytes\n7,5=01 5=01", "row 2, column 'other bytes': '5=01 5=01' "),
     ("kind,other bytes\n7,5:01", "row 2, column 'other bytes': '5:01' "),
     ("kind,other bytes\nleft over,1=01", "row 2, column 'other bytes': "),
     (f"kind,other bytes\nleft over,0={'00' * 32}", "row 2, column 'other bytes': "),
-    ("kind,other bytes\nleft over,0=00\nclosing,", "row 2, column 'kind': "),
+    ("kind,other bytes\nleft over,0=00\n7,", "row 2, column 'kind': "),
+    ("kind\nvehicle", "row 2, column 'category' is blank"),
+    (f"{HEADER.removesuffix(',number of runs')}\n{CLOSING_ROW.removesuffix(',2')}", "row 2, column 'number of runs' is blank"),
     ("", "no table: "),
 )
+
+
+def blanked(row):
+    """A row with each of its cells blank in turn, but not a level's, and what must be said of it."""
+    cells = row.split(",")
+    for at, (column, cell) in enumerate(zip(HEADER.split(","), cells)):
+        if cell and "level" not in column:
+            yield f"{HEADER}\n{','.join([*cells[:at], '', *cells[at + 1:]])}", f"row 2, column {column!r} is blank"
+
+
+BLANK = [case for row in (VEHICLE_ROW, RUN_ROW, ABSENT_ROW, CLOSING_ROW) for case in blanked(row)]
 
 
 def refusal_of_form(sheet):
@@ -170,8 +182,9 @@ def told(table):
 
 def check_by_hand():
     hand = report("table written by hand gives its sheet", [table for table in (BY_HAND,) if sheet_of(table) != FROM_HAND], 1)
-    wrong = [(table, told(table)) for table, words in UNREADABLE if not told(table).startswith(words)]
-    return report("tables that cannot be read are told with row and column", wrong, len(UNREADABLE)) and hand
+    unreadable = (*UNREADABLE, *BLANK)
+    wrong = [(table, told(table)) for table, words in unreadable if not told(table).startswith(words)]
+    return report("tables that cannot be read are told with row and column", wrong, len(unreadable)) and hand
 
 
 def tool(arguments, content):
@@ -190,6 +203,7 @@ def check_commands():
         ("make", tool(["make"], table), (damaged, 0)),
         ("make, from a spreadsheet", tool(["make"], b"\xEF\xBB\xBF" + table.replace(b"\n", b"\r\n")), (damaged, 0)),
         ("make, unreadable", tool(["make"], UNREADABLE[0][0].encode()), (b"", 1)),
+        ("make, a blank cell", tool(["make"], BY_HAND.replace("54.5,4000", "54.5,").encode()), (b"", 1)),
         ("make, no text", tool(["make"], bytes(range(256))), (b"", 1)),
     )
     wrong = [name for name, found, expected in answers if found != expected]

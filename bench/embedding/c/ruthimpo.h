@@ -2,16 +2,16 @@
  *
  * `rt staticlib embed` writes target/staticlib/libembed.a. A program links it, and needs nothing else for it:
  *
- *     cc program.c target/staticlib/libembed.a
+ *     cc -Ibench/embedding/c program.c target/staticlib/libembed.a
  *
  * The archive calls memcpy and memset and no other function, and it can be linked into a shared library too.
  *
  * Threads: the library has no state. It keeps nothing between calls and takes no memory but the stack, for which a thread
  * with 16 KB has room. Any number of threads may call it at once, each with buffers of its own; they may share a sheet.
  *
- * Pointers: bytes may lie at any address. A pointer may be NULL if the length with it is 0; `place` may not. The caller
- * sees to it that the bytes behind each pointer are as many as it says and do not overlap, and that nobody else writes
- * them during the call.
+ * Pointers: bytes may lie at any address, and a pointer to them may be NULL if the length with it is 0. `place` points to a
+ * size_t, aligned as any other, and may not be NULL. The caller sees to it that the bytes behind each pointer are as many as
+ * it says and do not overlap, and that nobody else writes them during the call.
  *
  * Places: records count from 0, and the bytes of a record are those from 32 * place on. The place of a gear is its number.
  * If a refusal names neither, its place is 0.
@@ -26,7 +26,7 @@
 extern "C" {
 #endif
 
-/* The size of a result record, and of the longest line with its line feed. */
+/* The size of a result record, and the room that ruthimpo_line asks for, more than any line takes. */
 #define RUTHIMPO_RESULT_BYTES 32
 #define RUTHIMPO_LINE_BYTES 276
 
@@ -34,14 +34,15 @@ extern "C" {
 enum ruthimpo_refusal {
     RUTHIMPO_ACCEPTED = 0,
     RUTHIMPO_SHORT_BUFFER = 1,      /* the result buffer has under 32 bytes */
-    RUTHIMPO_WRONG_SIZE = 2,        /* the sheet is empty, over 32,768 bytes, or not whole records */
+    RUTHIMPO_WRONG_SIZE = 2,        /* the sheet has no byte, more than 32,768, or a record cut short */
     RUTHIMPO_NO_VEHICLE = 3,        /* the first record is no vehicle record */
     RUTHIMPO_NO_CLOSING = 4,        /* the last record, its place, does not close the sheet or counts another number of runs */
     RUTHIMPO_BROKEN_RECORD = 5,     /* the place is the lowest record that breaks the layout */
     RUTHIMPO_PMR_OUT_OF_RANGE = 6,  /* PMR is under 5.0 or over 600.0 */
-    RUTHIMPO_NO_WINDOW = 7,         /* the place is the lowest gear without an acceleration window; 0 if there is no acceleration run */
+    RUTHIMPO_NO_WINDOW = 7,         /* the place is the lowest gear with an acceleration run and no window;
+                                       0 if there is no acceleration run */
     RUTHIMPO_NOT_FALLING = 8,       /* the place is the lower gear of the first neighbours whose accelerations do not fall */
-    RUTHIMPO_NO_RULE = 9,           /* no gear remains, or no gear rule applies */
+    RUTHIMPO_NO_RULE = 9,           /* every gear is dropped, or none of the rules chooses one */
     RUTHIMPO_NO_CONSTANT_SPEED = 10 /* the place is the lowest chosen gear without a constant-speed window */
 };
 

@@ -6,7 +6,7 @@ use std::fmt;
 /// The bytes of a result record.
 pub const RESULT_BYTES: usize = 32;
 
-/// The longest line, with its line feed.
+/// The room that `ruthimpo_line` asks for, more than any line takes.
 const LINE_BYTES: usize = 276;
 
 extern "C" {
