@@ -19,7 +19,7 @@ from collections import Counter
 from damage import damaged_sheets, raised
 from examples import example_sheets
 from groups import GROUPS, random_session
-from make import Random
+from make import Random, beside_starts
 from reckon import Refused, chosen_records, excess, is_close, line, reckon, records_of, rise
 
 EXAMPLES, SHEETS, LINES = os.path.join("data", "examples.bin"), os.path.join("data", "sheets.bin"), "stdout"
@@ -108,14 +108,17 @@ def spread():
     print("\nof them")
     for name, holds in FEATURES.items():
         totals[name] = sum(holds([int(word) for word in text.split()[1:]], sheet) for _, text, sheet in answers)
-        print(f"  {name:<24}{totals[name]:>5}")
+        print(f"  {name:<28}{totals[name]:>5}")
+    PMRs = {int(text.split()[11]) for _, text, _ in answers if text.startswith("OK")}
+    met = [q in PMRs for q in beside_starts()]
+    print(f"  {met.count(True)} of the {len(met)} PMRs at and before the starts of a_urban and a_ref")
     print("\nby group")
     for group in GROUPS:
         counts = Counter(result for name, result, _ in found if name == group.__name__)
         shown = ", ".join(f"{result} {counts[result]}" for result in OUTCOMES if counts[result])
-        print(f"  {group.__name__:<24}{sum(counts.values()):>5}  {shown}")
+        print(f"  {group.__name__:<28}{sum(counts.values()):>5}  {shown}")
     return (len(found) >= LEAST_SHEETS and all(totals[result] >= LEAST_OF_EACH for result in OUTCOMES)
-            and all(totals[name] > 0 for name in FEATURES))
+            and all(totals[name] > 0 for name in FEATURES) and all(met))
 
 
 def all_sheets():

@@ -1,8 +1,8 @@
 """Damaged variants of sheets, and changes of levels for pairs of sheets."""
 
 import sheets
-from groups import changed, random_session
-from make import bits_of, float_step, spoiled
+from groups import random_session
+from make import bits_of, changed, float_step, spoiled
 from reckon import ABSENT, ACCELERATION_RUN, CONSTANT_RUN, records_of
 
 LONGEST_BASE = 3000  # bytes: longer sheets are seldom taken as a base

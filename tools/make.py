@@ -5,7 +5,7 @@ from typing import NamedTuple, Optional
 
 import sheets
 from reckon import (ABSENT, ACCELERATION_RUN, CONSTANT_RUN, HIGHEST_LEVEL, LEVEL, LOWEST_LEVEL, OVERLOAD, a_ref_of,
-                    a_urban_of, float_value, rounded)
+                    a_urban_of, float_value, records_of, rounded)
 
 MASK = 2 ** 64 - 1
 
@@ -208,7 +208,11 @@ def loud_copy(run, level):
     return run[:3] + bytes([LEVEL, LEVEL]) + run[5:8] + sheets.tenths(level) * 2 + run[16:]
 
 
-# Accelerations around R and a_urban.
+# PMRs below 25.0, and others. Accelerations around R and a_urban.
+
+QUIET_PMRS = (50, 100, 180, 249)
+USUAL_PMRS = (250, 251, 400, 667, 1000, 1500, 2500, 4000, 5500, 6000)
+
 
 def is_near(a, R):
     return 20 * abs(a - R) <= R and a <= 300
@@ -226,3 +230,55 @@ def first_below(R):
 
 def references(q):
     return a_urban_of(q), a_ref_of(q)
+
+
+def beside_starts():
+    """The lowest PMR of each hundredth of a_urban and of a_ref, and the PMR before it."""
+    starts = {q for q in range(51, 6001) if references(q) != references(q - 1)}
+    return sorted(starts | {q - 1 for q in starts})
+
+
+def pair_around(q, above, below):
+    """Two gears that R lies between, so many hundredths outside what rule 2 takes."""
+    R = a_ref_of(q)
+    return first_above(R) + above, max(first_below(R) - below, 0)
+
+
+# Short sheets for the causes that need few records.
+
+def short_runs():
+    """Two runs of one gear: layout without a window."""
+    return [sheets.run(ACCELERATION_RUN, 3, sheets.tenths(700), sheets.tenths(705), 450, 520),
+            sheets.run(CONSTANT_RUN, 3, sheets.tenths(650), sheets.tenths(655))]
+
+
+def short_sheet():
+    return sheets.sheet(sheets.vehicle(), short_runs())
+
+
+def one_gear_sheet(random, W=700, C=650, a=149, **car):
+    """A plain sheet that rule 1 takes."""
+    return sheet_of(random, dict(car), [Gear(3, a, W, C)], plain=True)
+
+
+def changed(whole, at, value):
+    """A sheet with one byte replaced."""
+    return whole[:at] + bytes([value]) + whole[at + 1:]
+
+
+def with_number(whole, record, at, value):
+    """A sheet with one 16-bit number replaced."""
+    copy = bytearray(whole)
+    sheets.put(copy, 32 * record + at, value)
+    return bytes(copy)
+
+
+def with_bytes(whole, record, at, part):
+    start = 32 * record + at
+    return whole[:start] + part + whole[start + len(part):]
+
+
+def whole_with_runs(whole, change):
+    """A sheet with every run record changed."""
+    records = records_of(whole)
+    return records[0] + b"".join(change(record) for record in records[1:-1]) + records[-1]

@@ -110,10 +110,11 @@ def number(record, at):
 
 
 def rounded(value):
-    """To the nearest whole number, a half going up."""
-    return (Fraction(value) + Fraction(1, 2)).__floor__()
+    """To the nearest whole number, a half going up: the whole part of value + 1/2."""
+    return (2 * value.numerator + value.denominator) // (2 * value.denominator)
 
 
+@lru_cache(maxsize=None)
 def float_value(four):
     """The exact value of a 32-bit IEEE float in four bytes, low byte first; None if it is not finite."""
     bits = int.from_bytes(four, "little")
@@ -155,7 +156,7 @@ def vehicle_layout(record):
 def reading_layout(kind, four):
     """Kind 0 needs four zero bytes; kinds 1 and 2 a finite level from 20.0 to 140.0."""
     if kind == ABSENT:
-        return bytes(four) == bytes(4)
+        return four == bytes(4)
     value = float_value(four)
     return kind in (LEVEL, OVERLOAD) and value is not None and LOWEST_LEVEL <= value <= HIGHEST_LEVEL
 
@@ -271,6 +272,7 @@ def pmr_tenths(vehicle):
     return rounded(Fraction(1000 * vehicle.power, vehicle.mass))
 
 
+@lru_cache(maxsize=None)
 def power_hundredth(q, exponent, offset):
     """The N with 10^(2N + offset) <= q^exponent < 10^(2N + offset + 2)."""
     power, N = q ** exponent, 0
@@ -280,12 +282,10 @@ def power_hundredth(q, exponent, offset):
     return N
 
 
-@lru_cache(maxsize=None)
 def a_urban_of(q):
     return power_hundredth(q, 126, 143)
 
 
-@lru_cache(maxsize=None)
 def a_ref_of(q):
     return a_urban_of(q) if q < CONSTANT_SPEED_PMR else power_hundredth(q, 318, 599)
 

@@ -1,5 +1,10 @@
 /* Reads the sheet that its argument names, and prints L_urban with its verdict, or the refusal, and the line of the
- * evaluation program. */
+ * evaluation program. In the project's folder:
+ *
+ *     rt staticlib embed
+ *     cc -o example bench/embedding/c/example.c target/staticlib/libembed.a
+ *     ./example crates/evaluate/stdin
+ */
 #include "ruthimpo.h"
 
 #include <stdio.h>
@@ -28,7 +33,7 @@ int main(int count, char **arguments) {
     uint8_t result[RUTHIMPO_RESULT_BYTES];
     size_t place;
     uint32_t refusal = ruthimpo_evaluate(sheet, bytes, result, sizeof result, &place);
-    if (refusal == 0) {
+    if (refusal == RUTHIMPO_ACCEPTED) {
         printf("L_urban %u dB(A): %s\n", number_at(result, RUTHIMPO_L_URBAN), result[RUTHIMPO_PASS] ? "pass" : "fail");
     } else {
         printf("refusal %u at %zu\n", (unsigned)refusal, place);

@@ -1,10 +1,20 @@
-/* The proved evaluation of pass-by sheets, for programs in C.
+/* The proved evaluation of pass-by sheets, for programs in C on x86-64 Linux.
  *
- * Link target/staticlib/libembed.a, which `rt staticlib embed` writes. The library keeps nothing between calls, takes no
- * memory but the stack and calls nothing but memcpy and memset.
+ * `rt staticlib embed` writes target/staticlib/libembed.a. A program links it, and needs nothing else for it:
  *
- * The caller sees to it that no pointer is null, that the bytes behind each pointer are as many as it says and do not
- * overlap, and that nobody else writes them during the call.
+ *     cc -Ibench/embedding/c program.c target/staticlib/libembed.a
+ *
+ * The archive calls memcpy and memset and no other function, and it can be linked into a shared library too.
+ *
+ * Threads: the library has no state. It keeps nothing between calls and takes no memory but the stack, for which a thread
+ * with 16 KB has room. Any number of threads may call it at once, each with buffers of its own; they may share a sheet.
+ *
+ * Pointers: bytes may lie at any address, and a pointer to them may be NULL if the length with it is 0. `place` points to a
+ * size_t, aligned as any other, and may not be NULL. The caller sees to it that the bytes behind each pointer are as many as
+ * it says and do not overlap, and that nobody else writes them during the call.
+ *
+ * Places: records count from 0, and the bytes of a record are those from 32 * place on. The place of a gear is its number.
+ * If a refusal names neither, its place is 0.
  */
 #ifndef RUTHIMPO_H
 #define RUTHIMPO_H
@@ -16,9 +26,25 @@
 extern "C" {
 #endif
 
-/* The size of a result record, and of the longest line with its line feed. */
+/* The size of a result record, and the room that ruthimpo_line asks for, more than any line takes. */
 #define RUTHIMPO_RESULT_BYTES 32
 #define RUTHIMPO_LINE_BYTES 276
+
+/* What ruthimpo_evaluate answers: acceptance, or the number of a refusal (document 01, "Refusals and what remains"). */
+enum ruthimpo_refusal {
+    RUTHIMPO_ACCEPTED = 0,
+    RUTHIMPO_SHORT_BUFFER = 1,      /* the result buffer has under 32 bytes */
+    RUTHIMPO_WRONG_SIZE = 2,        /* the sheet has no byte, more than 32,768, or a record cut short */
+    RUTHIMPO_NO_VEHICLE = 3,        /* the first record is no vehicle record */
+    RUTHIMPO_NO_CLOSING = 4,        /* the last record, its place, does not close the sheet or counts another number of runs */
+    RUTHIMPO_BROKEN_RECORD = 5,     /* the place is the lowest record that breaks the layout */
+    RUTHIMPO_PMR_OUT_OF_RANGE = 6,  /* PMR is under 5.0 or over 600.0 */
+    RUTHIMPO_NO_WINDOW = 7,         /* the place is the lowest gear with an acceleration run and no window;
+                                       0 if there is no acceleration run */
+    RUTHIMPO_NOT_FALLING = 8,       /* the place is the lower gear of the first neighbours whose accelerations do not fall */
+    RUTHIMPO_NO_RULE = 9,           /* every gear is dropped, or none of the rules chooses one */
+    RUTHIMPO_NO_CONSTANT_SPEED = 10 /* the place is the lowest chosen gear without a constant-speed window */
+};
 
 /* Places of the result record (document 01, "L_urban"). From W on they are 16-bit numbers, low byte first. */
 enum ruthimpo_field {
@@ -40,13 +66,13 @@ enum ruthimpo_field {
 /* Evaluates a sheet.
  *
  * Answers 0 and puts the result record into the first 32 bytes of `result`; the bytes after them keep what they held.
- * Or answers the number of the refusal, 1 to 10, and leaves all of `result` as it was; the place of the refusal, a record,
- * a gear or 0, goes to `place`. On success `place` is 0. */
+ * Or answers the number of the refusal, 1 to 10, and leaves all of `result` as it was; the place of the refusal goes to
+ * `place`. On success `place` is 0. */
 uint32_t ruthimpo_evaluate(const uint8_t *sheet, size_t sheet_bytes, uint8_t *result, size_t result_bytes,
                            size_t *place);
 
 /* Puts the line of the evaluation program into `out`, with its line feed and no zero after it, and answers its length;
- * 0 if `out` has less than 276 bytes. Bytes of `out` past the line may change. */
+ * the bytes after the line keep what they held. If `out` has under 276 bytes, answers 0 and leaves all of `out` as it was. */
 size_t ruthimpo_line(const uint8_t *sheet, size_t sheet_bytes, uint8_t *out, size_t out_bytes);
 
 #ifdef __cplusplus

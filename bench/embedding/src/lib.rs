@@ -1,11 +1,12 @@
-//! The proved evaluation of pass-by sheets, for Rust programs: safe functions over the static library of the crate `embed`.
+//! The proved evaluation of pass-by sheets, for Rust programs on x86-64 Linux: safe functions over the static library of the
+//! crate `embed`, which `rt staticlib embed` writes. The library has no state, so any number of threads may call it at once.
 
 use std::fmt;
 
 /// The bytes of a result record.
 pub const RESULT_BYTES: usize = 32;
 
-/// The longest line, with its line feed.
+/// The room that `ruthimpo_line` asks for, more than any line takes.
 const LINE_BYTES: usize = 276;
 
 extern "C" {
@@ -20,11 +21,25 @@ extern "C" {
     fn ruthimpo_line(sheet: *const u8, sheet_bytes: usize, out: *mut u8, out_bytes: usize) -> usize;
 }
 
-/// A refusal of document 01: its number, and the record or gear that it names.
+/// A refusal of document 01: its number, and the record (from 0) or gear that it names, or 0 if it names neither.
 #[derive(Clone, Copy, Debug, PartialEq, Eq)]
 pub struct Refusal {
     pub number: u32,
     pub place: usize,
+}
+
+/// The numbers by their names, which `c/ruthimpo.h` explains.
+impl Refusal {
+    pub const SHORT_BUFFER: u32 = 1;
+    pub const WRONG_SIZE: u32 = 2;
+    pub const NO_VEHICLE: u32 = 3;
+    pub const NO_CLOSING: u32 = 4;
+    pub const BROKEN_RECORD: u32 = 5;
+    pub const PMR_OUT_OF_RANGE: u32 = 6;
+    pub const NO_WINDOW: u32 = 7;
+    pub const NOT_FALLING: u32 = 8;
+    pub const NO_RULE: u32 = 9;
+    pub const NO_CONSTANT_SPEED: u32 = 10;
 }
 
 impl fmt::Display for Refusal {
@@ -53,4 +68,40 @@ pub fn line(sheet: &[u8]) -> String {
     // SAFETY: as in `evaluate`.
     let length = unsafe { ruthimpo_line(sheet.as_ptr(), sheet.len(), out.as_mut_ptr(), out.len()) };
     out[..length].iter().map(|&byte| char::from(byte)).collect()
+}
+
+#[cfg(test)]
+mod tests {
+    use super::*;
+
+    const NAMES: [(&str, u32); 10] = [
+        ("SHORT_BUFFER", Refusal::SHORT_BUFFER),
+        ("WRONG_SIZE", Refusal::WRONG_SIZE),
+        ("NO_VEHICLE", Refusal::NO_VEHICLE),
+        ("NO_CLOSING", Refusal::NO_CLOSING),
+        ("BROKEN_RECORD", Refusal::BROKEN_RECORD),
+        ("PMR_OUT_OF_RANGE", Refusal::PMR_OUT_OF_RANGE),
+        ("NO_WINDOW", Refusal::NO_WINDOW),
+        ("NOT_FALLING", Refusal::NOT_FALLING),
+        ("NO_RULE", Refusal::NO_RULE),
+        ("NO_CONSTANT_SPEED", Refusal::NO_CONSTANT_SPEED),
+    ];
+
+    #[test]
+    fn the_header_has_the_same_names() {
+        let header = include_str!("../c/ruthimpo.h");
+        for (name, number) in NAMES {
+            let expected = [format!("RUTHIMPO_{name}"), "=".into(), number.to_string()];
+            let has = |line: &str| line.trim().split([' ', ',']).take(3).eq(&expected);
+            assert!(header.lines().any(has), "{name} is not {number} in c/ruthimpo.h");
+        }
+    }
+
+    #[test]
+    fn empty_slices_are_refused() {
+        let refused = |number| Err(Refusal { number, place: 0 });
+        assert_eq!(evaluate(&[], &mut []), refused(Refusal::SHORT_BUFFER));
+        assert_eq!(evaluate(&[], &mut [0; RESULT_BYTES]), refused(Refusal::WRONG_SIZE));
+        assert_eq!(line(&[]), "REFUSED 2 0\n");
+    }
 }

@@ -1,6 +1,7 @@
 // Prints the line of each sheet of document 01's examples, and then of each of the corpus. In a file, a sheet stands after its length in
 // four bytes, low byte first; the length 0xffffffff ends the file.
 use libc::STDOUT_FILENO;
+use program::Transfer;
 
 // Room for the longest sheet of the file; some are over the limit of a sheet.
 const LONGEST: usize = 65536;
@@ -14,13 +15,13 @@ fn read_length(fd: i32) -> usize {
     units::number32(&four, 0) as usize
 }
 
-// Evaluates a sheet and prints its line; answers whether it was written.
+// Prints the line of a sheet; answers whether it was written.
 fn print_line(sheet: &[u8]) -> bool {
-    let mut result = [0u8; 32];
-    let answer = evaluation::evaluate(sheet, &mut result);
-    let mut out = [0u8; 276];
-    let n = line::line(answer, &result, &mut out);
-    io::write_all(STDOUT_FILENO, &out[..n])
+    let mut line = [0u8; program::LINE_ROOM];
+    match program::print_line(sheet, &mut line, STDOUT_FILENO) {
+        Transfer::Bytes(_) => true,
+        Transfer::Failed => false,
+    }
 }
 
 // Prints the line of the next sheet; answers whether to go on.

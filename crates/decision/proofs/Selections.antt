@@ -17,7 +17,7 @@ use Rattle.gears.specs.declared.Choice.the-variants as choice
 use Rattle.gears.specs.Rules.{emptyGear, gearAt, a}
 use Rattle.gears.proofs.Choices.{Selectable}
 use Rattle.session.specs.Session.{Session, windowIn, gearAcceleration, gearsOf, windowsOf}
-use Rattle.session.proofs.Entries.{remaining-at}
+use Rattle.session.proofs.Entries.{remaining-at, numbers-rise}
 use Rattle.urban.specs.declared.ChosenGear.{ChosenGear}
 use Rattle.urban.specs.declared.Chosen.the-variants.{One, Pair}
 use Rattle.urban.specs.Urban.{aOf}
@@ -60,7 +60,7 @@ pub record IsMeasured (t : Session) (g : ChosenGear) : Type 0 where
 abbrev pub Measuring : Session → Selection → Type 0
 Measuring t (selection.Refused x) = Unit {0}
 Measuring t (selection.Chosen (One rule g)) = IsMeasured t g
-Measuring t (selection.Chosen (Pair rule i j)) = IsMeasured t i × IsMeasured t j
+Measuring t (selection.Chosen (Pair rule i j)) = IsMeasured t i × IsMeasured t j × (i .gear .number < j .gear .number)
 
 module _ (t : Session) where
   -- the gear at a place
@@ -80,12 +80,12 @@ module _ (t : Session) where
   one rule p (window.Runs h) l e = at-place p h l e
 
   two : (rule p : ℕ) (v w : Window) → p + 1 < length (gearsOf t) → windowIn t 3 (gear p .number) ≡ v → windowIn t 3 (gear (p + 1) .number) ≡ w → Measuring t (pairOf rule (measuredBy (gear p) (four p) v) (measuredBy (gear (p + 1)) (four (p + 1)) w))
-  unfolding pairOf measuredBy
+  unfolding pairOf measuredBy gear gearAt
   two rule p window.Nothing w l d e = tt
   two rule p (window.Runs h) window.Nothing l d e = tt
-  two rule p (window.Runs h) (window.Runs k) l d e = (at-place p h (omega arith) d, at-place (p + 1) k l e)
+  two rule p (window.Runs h) (window.Runs k) l d e = (at-place p h (omega arith) d, at-place (p + 1) k l e, numbers-rise t emptyGear p l)
 
-  -- every chosen gear has its two windows
+  -- every chosen gear has its two windows, and gear i of a pair has the lower number
   pub measuring : (R : ℕ) (c : Choice) → Selectable R (gearsOf t) c → Measuring t (selectedIn t (gearsOf t) (windowsOf t) c)
   unfolding selectedIn measuredAt gear four
   measuring R choice.Nothing h = tt

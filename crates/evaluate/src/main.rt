@@ -1,26 +1,30 @@
-// Reads a sheet on standard input, evaluates it and prints its line.
+// Evaluates the sheet on standard input and prints its line on standard output. What keeps it from that goes to standard error.
+use libc::STDERR_FILENO;
 use libc::STDIN_FILENO;
 use libc::STDOUT_FILENO;
+use program::Ending;
 
-// Whether the input has ended. `io::read_full` stops in the same way at the end and at a failed read; one read more tells them apart.
-fn is_at_end() -> bool {
-    let mut more = [0u8; 1];
-    libc::read(STDIN_FILENO, &mut more) == 0
+fn evaluate_input() {
+    let mut sheet = [0u8; program::SHEET_ROOM];
+    let mut line = [0u8; program::LINE_ROOM];
+    match program::run(STDIN_FILENO, STDOUT_FILENO, &mut sheet, &mut line) {
+        Ending::Printed {
+            read: _,
+            written: _,
+        } => {}
+        Ending::NotRead => os::fail(b"read"),
+        Ending::NotWritten { read: _ } => os::fail(b"write"),
+    }
 }
 
 fn main() {
-    // One byte more than the longest sheet, so that a longer input is refused for its size.
-    let mut sheet = [0u8; 32769];
-    let n = io::read_full(STDIN_FILENO, &mut sheet);
-    if n < 32769 && !is_at_end() {
-        os::fail(&[b'r', b'e', b'a', b'd']);
+    // The first argument is the program's own name.
+    if os::arg_count() > 1 {
+        io::write_all(
+            STDERR_FILENO,
+            b"evaluate: takes no file name and no option; give it the sheet on standard input: evaluate < SHEET\n",
+        );
         return;
     }
-    let mut result = [0u8; 32];
-    let answer = evaluation::evaluate(&sheet[..n], &mut result);
-    let mut out = [0u8; 276];
-    let k = line::line(answer, &result, &mut out);
-    if !io::write_all(STDOUT_FILENO, &out[..k]) {
-        os::fail(&[b'w', b'r', b'i', b't', b'e']);
-    }
+    evaluate_input();
 }

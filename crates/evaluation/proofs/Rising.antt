@@ -37,6 +37,8 @@ use Rattle.figure.specs.Figure.{accelerating, constant, reported, GearNotLower,
 use Rattle.figure.proofs.Rising.{rising}
 use Rattle.evaluation.specs.Answer.{answerBy, answerOf, bufferBy, bufferOf}
 use Rattle.evaluation.specs.Demand.{runsOf, chosenRunsBy, chosenRuns, NoneLower, RisesFrom}
+use Rattle.evaluation.proofs.InKeyOrder.{listed}
+use Rattle.evaluation.proofs.SameRuns.{same-list}
 use Rattle.evaluation.proofs.OnlyLevels.{same-track, same-reference, run-rising}
 
 -- ---- where a window's runs stand among the chosen ones
@@ -79,7 +81,7 @@ module _ (s s′ : List ℕ) (n : NoneLower s s′) (w : WholeSheet s (sheetVehi
     where
       of : (i : ℕ) (v v′ : ValidRun) → i < length (chosenRuns s) → getD (chosenRuns s) i 0 ≡ v .number → getD (chosenRuns s) i 0 ≡ v′ .number → Member s o 1 (records s - 2) v → Member s′ o′ 1 (records s′ - 2) v′ → Risen v v′
       of i v v′ l q q′ m m′ =
-          run-rising s s′ (n .only-levels) o o′ (getD (chosenRuns s) i 0) v v′ (omega (arith, q, m .last, w .two)) same (ap (candidateOf s o) q ∙ m .is) (ap (candidateOf s′ o′) q′ ∙ m′ .is) (n .none-lower i l)
+          run-rising s s′ (n .only-levels) o o′ (getD (chosenRuns s) i 0) v v′ (omega (arith, q, m .last, w .two)) same (ap (candidateOf s o) q ∙ m .is) (ap (candidateOf s′ o′) q′ ∙ m′ .is) (n .none-lower (getD (chosenRuns s) i 0) (listed (chosenRuns s) i l))
 
   tracks : sheetSession s .track ≡ sheetSession s′ .track
   tracks = same-track s s′ (n .only-levels) (sheetVehicle s) (sheetClosing s) w
@@ -102,20 +104,20 @@ module _ (s s′ : List ℕ) (n : NoneLower s s′) (w : WholeSheet s (sheetVehi
 eight-is-not-sixteen : (g i j : ChosenGear) → runsOf g ≡ runsOf i ++ runsOf j → ⊥
 eight-is-not-sixteen g i j e = let z : _≡_ {A = ℕ} 8 16 = ap length e in omega arith
 
-module _ (s s′ : List ℕ) (n : NoneLower s s′) (w : WholeSheet s (sheetVehicle s) (sheetClosing s)) where
+module _ (s s′ : List ℕ) (n : NoneLower s s′) (w : WholeSheet s (sheetVehicle s) (sheetClosing s)) (same-runs : chosenRuns s ≡ chosenRuns s′) where
   runs-are : (t : List ℕ) (g : Chosen) → selectionIn t ≡ selection.Chosen g → chosenRuns t ≡ chosenRunsBy (selection.Chosen g)
   unfolding chosenRuns
   runs-are t g e = ap chosenRunsBy e
 
   chosen-rising : (g h : Chosen) → selectionIn s ≡ selection.Chosen g → selectionIn s′ ≡ selection.Chosen h → Measuring (sheetSession s) (selection.Chosen g) → Measuring (sheetSession s′) (selection.Chosen h) → ChosenNotLower g h
   chosen-rising (One rule g) (One rule′ h) e e′ m m′ =
-      gear-rising s s′ n w 0 g h m m′ (rw (runs-are s (One rule g) e) (first-listed g [])) (rw (n .same-runs ∙ runs-are s′ (One rule′ h) e′) (first-listed h []))
+      gear-rising s s′ n w 0 g h m m′ (rw (runs-are s (One rule g) e) (first-listed g [])) (rw (same-runs ∙ runs-are s′ (One rule′ h) e′) (first-listed h []))
   chosen-rising (Pair rule i j) (Pair rule′ i′ j′) e e′ m m′ =
       let runs = runs-are s (Pair rule i j) e in
-      let runs′ = n .same-runs ∙ runs-are s′ (Pair rule′ i′ j′) e′ in
+      let runs′ = same-runs ∙ runs-are s′ (Pair rule′ i′ j′) e′ in
       (gear-rising s s′ n w 0 i i′ (m .0) (m′ .0) (rw runs (first-listed i (runsOf j))) (rw runs′ (first-listed i′ (runsOf j′))), gear-rising s s′ n w 8 j j′ (m .1) (m′ .1) (rw runs (second-listed i j)) (rw runs′ (second-listed i′ j′)))
-  chosen-rising (One rule g) (Pair rule′ i j) e e′ m m′ = absurd (eight-is-not-sixteen g i j (sym (runs-are s (One rule g) e) ∙ n .same-runs ∙ runs-are s′ (Pair rule′ i j) e′))
-  chosen-rising (Pair rule i j) (One rule′ h) e e′ m m′ = absurd (eight-is-not-sixteen h i j (sym (runs-are s′ (One rule′ h) e′) ∙ sym (n .same-runs) ∙ runs-are s (Pair rule i j) e))
+  chosen-rising (One rule g) (Pair rule′ i j) e e′ m m′ = absurd (eight-is-not-sixteen g i j (sym (runs-are s (One rule g) e) ∙ same-runs ∙ runs-are s′ (Pair rule′ i j) e′))
+  chosen-rising (Pair rule i j) (One rule′ h) e e′ m m′ = absurd (eight-is-not-sixteen h i j (sym (runs-are s′ (One rule′ h) e′) ∙ sym same-runs ∙ runs-are s (Pair rule i j) e))
 
 -- ---- L_urban of both
 
@@ -127,7 +129,8 @@ level-rising s s′ o o′ e e′ n =
     let same : referenceIn s′ ≡ referenceIn s = sym (same-reference s s′ (n .only-levels) (sheetVehicle s) (sheetClosing s) (d .sheet)) in
     let here : o .«l_urban» ≡ reported (referenceIn s) (d .chosen-gears) (sheetVehicle s .limit) = ap (λ (x : Outcome). x .«l_urban») (d .is) in
     let there : o′ .«l_urban» ≡ reported (referenceIn s) (d′ .chosen-gears) (sheetVehicle s′ .limit) = ap (λ (x : Outcome). x .«l_urban») (d′ .is) ∙ ap (λ (r : Reference). reported r (d′ .chosen-gears) (sheetVehicle s′ .limit)) same in
-    let rises = rising (referenceIn s) (d .chosen-gears) (d′ .chosen-gears) (sheetVehicle s .limit) (sheetVehicle s′ .limit) (d .straddled) (chosen-rising s s′ n (d .sheet) (d .chosen-gears) (d′ .chosen-gears) (d .chosen-is) (d′ .chosen-is) (d .measured) (d′ .measured)) in
+    let runs = same-list s s′ (n .only-levels) o o′ d d′ (n .same-runs) in
+    let rises = rising (referenceIn s) (d .chosen-gears) (d′ .chosen-gears) (sheetVehicle s .limit) (sheetVehicle s′ .limit) (d .straddled) (chosen-rising s s′ n (d .sheet) runs (d .chosen-gears) (d′ .chosen-gears) (d .chosen-is) (d′ .chosen-is) (d .measured) (d′ .measured)) in
     omega (arith, here, there, rises)
 
 -- an accepted sheet decides on a result, whose L_urban stands at byte 10

@@ -1,9 +1,9 @@
 -- Demand 3 on sheets (document 01, second half of "L_urban"): the chosen runs of an accepted sheet, its figure, how close the reported L_urban is
 -- to it, and how it compares with that of a sheet in which no chosen run is lower. All are definitions of the sheets' bytes.
 use mathlib.Core.Path.{_≡_}
-use mathlib.Core.Bool.{Bool, false, _&&_, _||_}
+use mathlib.Core.Bool.{Bool, true, false, _&&_, _||_}
 use mathlib.Core.List.{List, [], _∷_, _++_}
-use Prim.Native.Nat.{ℕ, _/_, _%_, _≤_, _<_}
+use Prim.Native.Nat.{ℕ, _/_, _%_, _≤_}
 use lib.Dec.{eqb, leb, ltb}
 use lib.Ieee.{Float, binary32, ofBits, lt}
 use lib.ListN.{length, getD}
@@ -59,13 +59,22 @@ chosenRunsBy (selection.Chosen (Pair rule i j)) = runsOf i ++ runsOf j
 unfoldable pub chosenRuns : List ℕ → List ℕ
 chosenRuns s = chosenRunsBy (selectionIn s)
 
+-- a number is one of a list
+unfoldable pub among : ℕ → List ℕ → Bool
+among n [] = false
+among n (m ∷ others) = eqb n m || among n others
+
+-- record n is a chosen run
+abbrev pub isChosen : List ℕ → ℕ → Bool
+isChosen s n = among n (chosenRuns s)
+
 -- ---- rising
 
 -- byte m belongs to one of the floats, at 8 and 12, of a run record
 unfoldable pub ofLevel : List ℕ → ℕ → Bool
 ofLevel s m = let kind = byte (recordAt s (m / 32)) 0 in (eqb kind 2 || eqb kind 3) && leb 8 (m % 32) && ltb (m % 32) 16
 
--- only runs' levels are changed: the sheets are alike in every byte but those of the floats
+-- two sheets of one length, in which no byte differs but those of runs' floats
 pub record OnlyLevels (s s′ : List ℕ) : Type 0 where
   pub size : length s ≡ length s′
   pub alike : (m : ℕ) → ofLevel s m ≡ false → getD s m 0 ≡ getD s′ m 0
@@ -74,15 +83,15 @@ pub record OnlyLevels (s s′ : List ℕ) : Type 0 where
 unfoldable pub floatAt : List ℕ → ℕ → ℕ → Float
 floatAt s n at = ofBits binary32 (number (recordAt s n) at 4)
 
--- the level of run n is lower in the second sheet: its left or its right float has a smaller value there
+-- run n is quieter in the second sheet, on its left or on its right, by the values of the floats
 unfoldable pub lower : List ℕ → List ℕ → ℕ → Bool
 lower s s′ n = lt (floatAt s′ n 8) (floatAt s n 8) || lt (floatAt s′ n 12) (floatAt s n 12)
 
--- only runs' levels are changed, the same runs are chosen, and the level of no chosen run is lower in the second sheet
+-- only runs' levels are changed, the same record numbers are chosen, and the level of no chosen run is lower in the second sheet
 pub record NoneLower (s s′ : List ℕ) : Type 0 where
   pub only-levels : OnlyLevels s s′
-  pub same-runs : chosenRuns s ≡ chosenRuns s′
-  pub none-lower : (p : ℕ) → p < length (chosenRuns s) → lower s s′ (getD (chosenRuns s) p 0) ≡ false
+  pub same-runs : (n : ℕ) → isChosen s n ≡ isChosen s′ n
+  pub none-lower : (n : ℕ) → isChosen s n ≡ true → lower s s′ n ≡ false
 
 -- Rising: the level is not above the reported L_urban, at byte 10 of the result, of any sheet s′ that is accepted too and in which the
 -- level of no chosen run is lower.

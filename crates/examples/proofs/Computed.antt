@@ -22,10 +22,13 @@ use Rattle.gears.specs.Acceleration.{accelerationOf, meanOf}
 use Rattle.gears.specs.Rules.{emptyGear, gearAt, a, firstNotFalling, gap, near, nearer, nearest, jOf, firstBelow, oneAt, acrossOf, choiceOf, kOf}
 use Rattle.session.specs.Session.{slowEnough, gearAcceleration, byWindow, stateOf, lowestNoWindow, remainingFrom, remaining, gearsOf, windowsOf}
 use Rattle.urban.specs.Urban.{weighedLevel, basisOf, partPower, lUrbanOf, outcomeOf}
-use Rattle.result.specs.Result.{fieldsOf}
+use Rattle.result.specs.Result.{resultBytes, outcomeIn, fieldsOf}
 use Rattle.decision.specs.Decision.{windowAt, measuredBy, measuredAt, oneOf, pairOf, selectedIn, finishBy, decideGears, decideWhole, trackOf, decideBy, decisionOf, sheetVehicle, sheetClosing, sheetSession, pmrIn, referenceIn, choiceIn, selectionIn}
+use Rattle.evaluation.specs.Answer.{answerBy, answerOf, bufferBy, bufferOf}
 use Rattle.evaluation.specs.Demand.{chosenRuns}
-use Rattle.examples.specs.Starred.{Example, gives, shouldGive, starred, decisionGives, workedSheet}
+use Rattle.text.specs.Text.{digitsOf, decimalOf, spaced, lineWith}
+use Rattle.line.specs.Line.{acceptedWord, lineOf, lineOfSheet}
+use Rattle.examples.specs.Starred.{Example, gives, shouldGive, starred, workedSheet}
 
 unfoldable pub same : List ℕ → List ℕ → Bool
 same [] [] = true
@@ -58,20 +61,22 @@ workedRuns = 5 ∷ 6 ∷ 7 ∷ 8 ∷ 13 ∷ 14 ∷ 15 ∷ 16 ∷ 9 ∷ 10 ∷ 11
 abbrev pub louderSheet : List ℕ
 louderSheet = sets (sets (sets (sets workedSheet 170 (0x93 ∷ [])) 202 (0x93 ∷ [])) 234 (0x92 ∷ [])) 266 (0x92 ∷ [])
 
--- its L_urban is 71, where the worked sheet's is 70
-abbrev pub louderFields : List ℕ
-louderFields = 3 ∷ 3 ∷ 4 ∷ 78 ∷ 29 ∷ 727 ∷ 658 ∷ 71 ∷ 106 ∷ 149 ∷ 667 ∷ 149 ∷ 1 ∷ []
+-- its line has W 72.7 for 71.9 and L_urban 71 for 70
+abbrev pub louderLine : List ℕ
+louderLine =
+    79 ∷ 75 ∷ 32 ∷ 51 ∷ 32 ∷ 51 ∷ 32 ∷ 52 ∷ 32 ∷ 55 ∷ 56 ∷ 32 ∷ 50 ∷ 57 ∷ 32 ∷ 55 ∷ 50 ∷ 55 ∷ 32 ∷ 54 ∷ 53 ∷ 56
+    ∷ 32 ∷ 55 ∷ 49 ∷ 32 ∷ 49 ∷ 48 ∷ 54 ∷ 32 ∷ 49 ∷ 52 ∷ 57 ∷ 32 ∷ 54 ∷ 54 ∷ 55 ∷ 32 ∷ 49 ∷ 52 ∷ 57 ∷ 32 ∷ 49 ∷ 10 ∷ []
 
 runsTest : List ℕ → Bool
 runsTest s = same (chosenRuns s) workedRuns
 
 louderTest : Bool
-louderTest = same (decisionGives (decisionOf louderSheet)) louderFields
+louderTest = same (lineOfSheet louderSheet) louderLine
 
 -- ---- the test
 
 computed : T (allOf (map test starred) && (runsTest workedSheet && (runsTest louderSheet && louderTest)))
-unfolding starred same test runsTest louderTest number lowest some pastLast rounded corrections correctionOf correctedSide sideOf inRange tenthsOf readingOf ofBits pmrOf between aUrban aRef referenceAt records recordAt zeros vehicleTests vehicleGood vehicleIn runTests runGood runIn readingFrom closingTests closingGood closingIn wrongSize noVehicle noClosing goodAt lowestBroken examined anyAcceleration hasAcceleration bothSides validOf candidateOf restFrom restOf windowOf spanned fitting emptyRun fourAt firstPlace firstWindow largerSum conditionLevel emptyFour accelerationOf meanOf emptyGear gearAt a firstNotFalling gap near nearer nearest jOf firstBelow oneAt acrossOf choiceOf kOf slowEnough gearAcceleration byWindow stateOf lowestNoWindow remainingFrom remaining gearsOf windowsOf weighedLevel basisOf partPower lUrbanOf outcomeOf windowAt measuredBy measuredAt oneOf pairOf selectedIn finishBy decideGears decideWhole trackOf decideBy decisionOf sheetVehicle sheetClosing sheetSession pmrIn referenceIn choiceIn selectionIn fieldsOf chosenRuns
+unfolding starred same test runsTest louderTest number lowest some pastLast rounded corrections correctionOf correctedSide sideOf inRange tenthsOf readingOf ofBits pmrOf between aUrban aRef referenceAt records recordAt zeros vehicleTests vehicleGood vehicleIn runTests runGood runIn readingFrom closingTests closingGood closingIn wrongSize noVehicle noClosing goodAt lowestBroken examined anyAcceleration hasAcceleration bothSides validOf candidateOf restFrom restOf windowOf spanned fitting emptyRun fourAt firstPlace firstWindow largerSum conditionLevel emptyFour accelerationOf meanOf emptyGear gearAt a firstNotFalling gap near nearer nearest jOf firstBelow oneAt acrossOf choiceOf kOf slowEnough gearAcceleration byWindow stateOf lowestNoWindow remainingFrom remaining gearsOf windowsOf weighedLevel basisOf partPower lUrbanOf outcomeOf windowAt measuredBy measuredAt oneOf pairOf selectedIn finishBy decideGears decideWhole trackOf decideBy decisionOf sheetVehicle sheetClosing sheetSession pmrIn referenceIn choiceIn selectionIn resultBytes outcomeIn fieldsOf answerBy answerOf bufferBy bufferOf digitsOf decimalOf spaced lineWith acceptedWord lineOf lineOfSheet chosenRuns
 computed = tt
 
 pub every-starred-test : T (allOf (map test starred))
@@ -88,6 +93,6 @@ pub louder-runs : chosenRuns louderSheet ≡ workedRuns
 unfolding runsTest
 louder-runs = same→≡ (chosenRuns louderSheet) workedRuns (and-l (runsTest louderSheet) louderTest (and-r (runsTest workedSheet) (runsTest louderSheet && louderTest) others))
 
-pub louder-fields : decisionGives (decisionOf louderSheet) ≡ louderFields
+pub louder-line : lineOfSheet louderSheet ≡ louderLine
 unfolding louderTest
-louder-fields = same→≡ (decisionGives (decisionOf louderSheet)) louderFields (and-r (runsTest louderSheet) louderTest (and-r (runsTest workedSheet) (runsTest louderSheet && louderTest) others))
+louder-line = same→≡ (lineOfSheet louderSheet) louderLine (and-r (runsTest louderSheet) louderTest (and-r (runsTest workedSheet) (runsTest louderSheet && louderTest) others))

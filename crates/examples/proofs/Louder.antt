@@ -1,18 +1,20 @@
 -- A louder sheet: the worked sheet with the left levels of gear 3's acceleration runs 1.0 dB higher. The same runs are chosen, none is lower,
 -- and L_urban is 71 for 70: what the promise `rising` asks of two sheets can be met. Assumes nothing.
-use mathlib.Core.Path.{_≡_, refl, sym, _∙_}
-use mathlib.Core.Bool.{Bool, true, false, not, _||_}
-use mathlib.Core.List.{List, [], _∷_}
-use Prim.Native.Nat.{ℕ, zero, suc, _≤_, _<_}
+use mathlib.Core.Path.{_≡_, refl, sym, ap, _∙_}
+use mathlib.Core.Bool.{Bool, true, false, not, _||_, true≢false}
+use mathlib.Core.List.{List, [], _∷_, map}
+use Prim.Native.Nat.{ℕ, zero, suc, _≤_}
 use native.Mathlib.Nat.{le-of-suc-le-suc, not-suc-le-zero}
 use lib.Dec.{T, eqb, ltb, eqb→eq}
 use lib.Ieee.{ofBits, lt}
+use lib.Ieee.Fits.{and-l, and-r}
 use lib.ListN.{length, getD}
-use borrow.Author.Tests.{ltb-true, ltb-false}
+use borrow.Author.Tests.{ltb-true, ltb-false, eqb-true}
 use Rattle.units.specs.Bytes.{number}
+use Rattle.units.specs.Tests.{allOf}
 use Rattle.units.proofs.Table.{every, at}
 use Rattle.record.specs.Records.{records, recordAt}
-use Rattle.evaluation.specs.Demand.{chosenRuns, ofLevel, OnlyLevels, floatAt, lower, NoneLower}
+use Rattle.evaluation.specs.Demand.{among, ofLevel, OnlyLevels, floatAt, lower, NoneLower}
 use Rattle.examples.specs.Starred.{workedSheet}
 use Rattle.examples.proofs.Computed.{workedRuns, louderSheet, worked-runs, louder-runs}
 
@@ -42,12 +44,21 @@ only = record { size = refl; alike = λ m e. by m e (ltb m 704) refl }
 -- ---- the chosen runs
 
 -- none is lower
-kept : ℕ → ℕ → Bool
-kept p n = not (lower workedSheet louderSheet n)
+kept : ℕ → Bool
+kept n = not (lower workedSheet louderSheet n)
 
-every-kept : T (every kept 0 workedRuns)
+every-kept : T (allOf (map kept workedRuns))
 unfolding kept lower floatAt lt ofBits records recordAt number
 every-kept = tt
+
+kept-among : (n : ℕ) (runs : List ℕ) → T (allOf (map kept runs)) → among n runs ≡ true → T (kept n)
+unfolding among
+kept-among n [] t e = absurd (true≢false (sym e))
+kept-among n (m ∷ runs) t e = by (eqb n m) refl e (kept-among n runs (and-r (kept m) (allOf (map kept runs)) t))
+  where
+    by : (b : Bool) → eqb n m ≡ b → (b || among n runs) ≡ true → (among n runs ≡ true → T (kept n)) → T (kept n)
+    by true q f others = rw (eqb-true n m q) (and-l (kept m) (allOf (map kept runs)) t)
+    by false q f others = others f
 
 is-false : (b : Bool) → T (not b) → b ≡ false
 is-false true t = absurd t
@@ -59,9 +70,6 @@ unfolding kept
 louder =
     record {
       only-levels = only;
-      same-runs = worked-runs ∙ sym louder-runs;
-      none-lower = λ p h. by p (rw worked-runs at h);
+      same-runs = λ n. ap (among n) (worked-runs ∙ sym louder-runs);
+      none-lower = λ n e. is-false (lower workedSheet louderSheet n) (kept-among n workedRuns every-kept (rw worked-runs at e));
     }
-  where
-    by : (p : ℕ) → p < length workedRuns → lower workedSheet louderSheet (getD (chosenRuns workedSheet) p 0) ≡ false
-    by p h = rw worked-runs (is-false (lower workedSheet louderSheet (getD workedRuns p 0)) (at kept workedRuns every-kept p h))

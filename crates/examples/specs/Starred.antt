@@ -5,7 +5,6 @@ use mathlib.Core.List.{List, [], _∷_, _++_, map}
 use Prim.Native.Nat.{ℕ, zero, suc, _+_, _%_, _/_}
 use lib.Ieee.{binary32, ofBits}
 use lib.ListN.{replicate}
-use Rattle.refusal.specs.Refusal.{numberOf, placeOf}
 use Rattle.level.specs.declared.Side.{Side}
 use Rattle.level.specs.declared.Side.the-variants as side
 use Rattle.level.specs.Level.{tenthsOf, correctedSide}
@@ -21,11 +20,8 @@ use Rattle.gears.specs.declared.Choice.the-variants as choice
 use Rattle.gears.specs.Acceleration.{accelerationOf}
 use Rattle.gears.specs.Rules.{choiceOf}
 use Rattle.urban.specs.Urban.{lUrbanOf}
-use Rattle.result.specs.Result.{fieldsOf}
-use Rattle.decision.specs.declared.Decision.{Decision}
-use Rattle.decision.specs.declared.Decision.the-variants as decision
-use Rattle.decision.specs.Decision.{decisionOf}
 use Rattle.evaluation.specs.Demand.{numbersOf}
+use Rattle.line.specs.Line.{lineOfSheet}
 
 pub data Example : Type 0 where
   -- the pattern of a float; its tenths
@@ -42,8 +38,8 @@ pub data Example : Type 0 where
   chosen : ℕ → ℕ → List ℕ → List ℕ → Example
   -- PMR in tenths, a_urban, a', W and C; kp in hundredths
   powered : ℕ → ℕ → ℕ → ℕ → ℕ → ℕ → Example
-  -- the bytes of a sheet; the fields that the program prints
-  evaluated : List ℕ → List ℕ → Example
+  -- the bytes of a sheet; the bytes of the line that the program prints
+  printed : List ℕ → List ℕ → Example
 
 -- ---- what the rules give, as numbers
 
@@ -73,11 +69,6 @@ choiceGives (choice.One rule p) = rule ∷ (p + 1) ∷ []
 choiceGives (choice.Pair rule p) = rule ∷ (p + 1) ∷ (p + 2) ∷ []
 choiceGives choice.Nothing = []
 
--- the fields of a result as they are printed; of a refusal its number and place
-abbrev pub decisionGives : Decision → List ℕ
-decisionGives (decision.Refused r) = numberOf r ∷ placeOf r ∷ []
-decisionGives (decision.Result o) = fieldsOf o
-
 abbrev pub gives : Example → List ℕ
 gives (tenths pattern n) = tenthsOf (ofBits binary32 pattern) ∷ []
 gives (corrected level background n) = sideGives (correctedSide level background)
@@ -86,7 +77,7 @@ gives (references q u r) = aUrban q ∷ aRef q ∷ []
 gives (accelerated path start end n) = accelerationOf start end path ∷ []
 gives (chosen R u accelerations numbers) = choiceGives (choiceOf (referred 0 u R) (gearsWith accelerations))
 gives (powered q u a w c kp) = lUrbanOf (referred q u 0) a w c .kp ∷ []
-gives (evaluated s fields) = decisionGives (decisionOf s)
+gives (printed s line) = lineOfSheet s
 
 abbrev pub shouldGive : Example → List ℕ
 shouldGive (tenths pattern n) = n ∷ []
@@ -96,7 +87,7 @@ shouldGive (references q u r) = u ∷ r ∷ []
 shouldGive (accelerated path start end n) = n ∷ []
 shouldGive (chosen R u accelerations numbers) = numbers
 shouldGive (powered q u a w c kp) = kp ∷ []
-shouldGive (evaluated s fields) = fields
+shouldGive (printed s line) = line
 
 -- an example holds if the rules give what they should
 abbrev pub Holds : Example → Type 0
@@ -137,6 +128,12 @@ workedSheet =
     -- 20 runs, background 40.0
     ++ (9 ∷ 0 ∷ []) ++ bytesOf 2 20 ++ bytesOf 2 400 ++ replicate 26 0
 
+-- "OK 3 3 4 78 29 719 658 70 106 149 667 149 1" and a line feed, in ASCII codes
+abbrev pub workedLine : List ℕ
+workedLine =
+    79 ∷ 75 ∷ 32 ∷ 51 ∷ 32 ∷ 51 ∷ 32 ∷ 52 ∷ 32 ∷ 55 ∷ 56 ∷ 32 ∷ 50 ∷ 57 ∷ 32 ∷ 55 ∷ 49 ∷ 57 ∷ 32 ∷ 54 ∷ 53 ∷ 56
+    ∷ 32 ∷ 55 ∷ 48 ∷ 32 ∷ 49 ∷ 48 ∷ 54 ∷ 32 ∷ 49 ∷ 52 ∷ 57 ∷ 32 ∷ 54 ∷ 54 ∷ 55 ∷ 32 ∷ 49 ∷ 52 ∷ 57 ∷ 32 ∷ 49 ∷ 10 ∷ []
+
 unfoldable pub starred : List Example
 starred =
     -- 72.25 gives 72.3, 72.125 gives 72.1
@@ -158,5 +155,5 @@ starred =
     -- one gear, a 1.00, a_urban 1.06, W not below C: kp 0
     ∷ powered 667 106 100 700 650 0
     -- the worked sheet
-    ∷ evaluated workedSheet (3 ∷ 3 ∷ 4 ∷ 78 ∷ 29 ∷ 719 ∷ 658 ∷ 70 ∷ 106 ∷ 149 ∷ 667 ∷ 149 ∷ 1 ∷ [])
+    ∷ printed workedSheet workedLine
     ∷ []

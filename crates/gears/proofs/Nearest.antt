@@ -17,25 +17,25 @@ use Rattle.gears.specs.declared.Gear.{Gear}
 use Rattle.gears.specs.declared.Best.{Best}
 use Rattle.gears.specs.Rules.{a, ceiling, gap, near, nearer, nearest}
 
--- a near acceleration lies within 16 bits of R
-within-16-bits : (R x : ℕ) → R < 65536 → near R x ≡ true → gap x R < 65536
+-- no near acceleration is as far from R as the filler
+not-as-far : (R x : ℕ) → R < 65536 → near R x ≡ true → gap x R < 65535
 unfolding near
-within-16-bits R x h e =
+not-as-far R x h e =
     let t : T (leb (20 * gap x R) R && leb x ceiling) = rw e tt in
     omega (arith, leb→le (20 * gap x R) R (and-l (leb (20 * gap x R) R) (leb x ceiling) t))
 
 -- `b` is the nearest of the near gears before place i, the first of those as near; the number of gears if there is none
 pub record Seen (R : ℕ) (gears : List Gear) (i : ℕ) (b : Best) : Type 0 where
   pub bound : b .place ≤ length gears
-  pub none : b .place ≡ length gears → b .distance ≡ 65536
+  pub none : b .place ≡ length gears → b .distance .0 ≡ 65535
   pub before : b .place < length gears → b .place < i
   pub is-near : b .place < length gears → near R (a gears (b .place)) ≡ true
-  pub is : b .place < length gears → gap (a gears (b .place)) R ≡ b .distance
-  pub least : (k : ℕ) → k < i → near R (a gears k) ≡ true → b .distance ≤ gap (a gears k) R
-  pub first : (k : ℕ) → k < i → k < b .place → near R (a gears k) ≡ true → b .distance < gap (a gears k) R
+  pub is : b .place < length gears → gap (a gears (b .place)) R ≡ b .distance .0
+  pub least : (k : ℕ) → k < i → near R (a gears k) ≡ true → b .distance .0 ≤ gap (a gears k) R
+  pub first : (k : ℕ) → k < i → k < b .place → near R (a gears k) ≡ true → b .distance .0 < gap (a gears k) R
 
 module _ (R : ℕ) (gears : List Gear) (small : R < 65536) where
-  pub seen-start : (n : ℕ) → n ≡ length gears → Seen R gears 0 (record { place = n; distance = 65536 })
+  pub seen-start : (n : ℕ) → n ≡ length gears → Seen R gears 0 (record { place = n; distance = record { 0 = 65535 } })
   seen-start n e =
       record {
         bound = omega arith;
@@ -56,7 +56,7 @@ module _ (R : ℕ) (gears : List Gear) (small : R < 65536) where
       by false e = let same : k ≡ i = le-antisymm (omega arith) (ltb-false k i e) in rw same p
 
   module _ (i : ℕ) (b : Best) (inside : i < length gears) (seen : Seen R gears i b) where
-    taken : near R (a gears i) ≡ true → gap (a gears i) R < b .distance → Seen R gears (i + 1) (record { place = i; distance = gap (a gears i) R })
+    taken : near R (a gears i) ≡ true → gap (a gears i) R < b .distance .0 → Seen R gears (i + 1) (record { place = i; distance = record { 0 = gap (a gears i) R } })
     taken n d =
         record {
           bound = omega arith;
@@ -68,7 +68,7 @@ module _ (R : ℕ) (gears : List Gear) (small : R < 65536) where
           first = λ k h l m. lt-of-lt-of-le d (seen .least k l m);
         }
 
-    passed : (near R (a gears i) && ltb (gap (a gears i) R) (b .distance)) ≡ false → Seen R gears (i + 1) b
+    passed : (near R (a gears i) && ltb (gap (a gears i) R) (b .distance .0)) ≡ false → Seen R gears (i + 1) b
     passed e =
         record {
           bound = seen .bound;
@@ -76,12 +76,12 @@ module _ (R : ℕ) (gears : List Gear) (small : R < 65536) where
           before = λ h. omega (arith, seen .before h);
           is-near = seen .is-near;
           is = seen .is;
-          least = up-to (λ k. near R (a gears k) ≡ true → b .distance ≤ gap (a gears k) R) i (seen .least) not-nearer;
-          first = up-to (λ k. k < b .place → near R (a gears k) ≡ true → b .distance < gap (a gears k) R) i (seen .first) (λ l m. absurd (never l m));
+          least = up-to (λ k. near R (a gears k) ≡ true → b .distance .0 ≤ gap (a gears k) R) i (seen .least) not-nearer;
+          first = up-to (λ k. k < b .place → near R (a gears k) ≡ true → b .distance .0 < gap (a gears k) R) i (seen .first) (λ l m. absurd (never l m));
         }
       where
-        not-nearer : near R (a gears i) ≡ true → b .distance ≤ gap (a gears i) R
-        not-nearer m = ltb-false (gap (a gears i) R) (b .distance) (sym (ap (λ (t : Bool). t && ltb (gap (a gears i) R) (b .distance)) m) ∙ e)
+        not-nearer : near R (a gears i) ≡ true → b .distance .0 ≤ gap (a gears i) R
+        not-nearer m = ltb-false (gap (a gears i) R) (b .distance .0) (sym (ap (λ (t : Bool). t && ltb (gap (a gears i) R) (b .distance .0)) m) ∙ e)
 
         never : i < b .place → near R (a gears i) ≡ true → ⊥
         never l m = by (ltb (b .place) (length gears)) refl
@@ -90,12 +90,12 @@ module _ (R : ℕ) (gears : List Gear) (small : R < 65536) where
             by true f = let h = ltb-true (b .place) (length gears) f in omega (arith, seen .before h)
             by false f =
                 let end : b .place ≡ length gears = le-antisymm (seen .bound) (ltb-false (b .place) (length gears) f) in
-                omega (arith, seen .none end, not-nearer m, within-16-bits R (a gears i) small m)
+                omega (arith, seen .none end, not-nearer m, not-as-far R (a gears i) small m)
 
-    pub seen-next : Seen R gears (i + 1) (cond (near R (a gears i) && ltb (gap (a gears i) R) (b .distance)) (record { place = i; distance = gap (a gears i) R }) b)
+    pub seen-next : Seen R gears (i + 1) (cond (near R (a gears i) && ltb (gap (a gears i) R) (b .distance .0)) (record { place = i; distance = record { 0 = gap (a gears i) R } }) b)
     seen-next =
-        by-test (Seen R gears (i + 1)) (near R (a gears i) && ltb (gap (a gears i) R) (b .distance)) (record { place = i; distance = gap (a gears i) R }) b
-        (λ e. let p = both (near R (a gears i)) (ltb (gap (a gears i) R) (b .distance)) e in taken (p .0) (ltb-true (gap (a gears i) R) (b .distance) (p .1)))
+        by-test (Seen R gears (i + 1)) (near R (a gears i) && ltb (gap (a gears i) R) (b .distance .0)) (record { place = i; distance = record { 0 = gap (a gears i) R } }) b
+        (λ e. let p = both (near R (a gears i)) (ltb (gap (a gears i) R) (b .distance .0)) e in taken (p .0) (ltb-true (gap (a gears i) R) (b .distance .0) (p .1)))
         passed
 
   -- at the end it is the gear of rule 2
@@ -108,7 +108,7 @@ module _ (R : ℕ) (gears : List Gear) (small : R < 65536) where
       worse k h false e = simp e
       worse k h true e = by (ltb (b .place) (length gears)) refl
         where
-          distant : b .distance < gap (a gears k) R
+          distant : b .distance .0 < gap (a gears k) R
           distant = seen .first k (omega (arith, seen .bound)) h e
 
           by : (t : Bool) → ltb (b .place) (length gears) ≡ t → (near R (a gears k) && eqb (lowest (nearer R gears k) (length gears) 0) (length gears)) ≡ false
@@ -118,7 +118,7 @@ module _ (R : ℕ) (gears : List Gear) (small : R < 65536) where
               simp (e, ne-eqb (lowest (nearer R gears k) (length gears) 0) (length gears) (omega (arith, lowest-most (nearer R gears k) (length gears) 0 (b .place) (omega arith) hit)))
           by false f =
               let end : b .place ≡ length gears = le-antisymm (seen .bound) (ltb-false (b .place) (length gears) f) in
-              absurd (omega (arith, seen .none end, distant, within-16-bits R (a gears k) small e))
+              absurd (omega (arith, seen .none end, distant, not-as-far R (a gears k) small e))
 
       -- no near gear is nearer than it
       none-nearer : b .place < length gears → (k : ℕ) → k < length gears → (t : Bool) → near R (a gears k) ≡ t → nearer R gears (b .place) k ≡ false
@@ -132,10 +132,10 @@ module _ (R : ℕ) (gears : List Gear) (small : R < 65536) where
 
   -- there is always such a `b`
   seen-upto : (i : ℕ) → i ≤ length gears → (b : Best) × Seen R gears i b
-  seen-upto zero h = (record { place = length gears; distance = 65536 }, seen-start (length gears) refl)
+  seen-upto zero h = (record { place = length gears; distance = record { 0 = 65535 } }, seen-start (length gears) refl)
   seen-upto (suc i) h =
       let s = seen-upto i (omega arith) in
-      (cond (near R (a gears i) && ltb (gap (a gears i) R) (s .0 .distance)) (record { place = i; distance = gap (a gears i) R }) (s .0), rw (add-one i) at (seen-next i (s .0) h (s .1)))
+      (cond (near R (a gears i) && ltb (gap (a gears i) R) (s .0 .distance .0)) (record { place = i; distance = record { 0 = gap (a gears i) R } }) (s .0), rw (add-one i) at (seen-next i (s .0) h (s .1)))
 
   -- rule 2 takes no gear only if none is near
   pub none-near : length gears ≤ nearest R gears → (k : ℕ) → k < length gears → near R (a gears k) ≡ false
@@ -148,4 +148,4 @@ module _ (R : ℕ) (gears : List Gear) (small : R < 65536) where
       by false e = refl
       by true e =
           let end : s .0 .place ≡ length gears = le-antisymm (s .1 .bound) (le-trans h (le-of-eq (seen-all (s .0) (s .1)))) in
-          absurd (omega (arith, s .1 .none end, s .1 .least k l e, within-16-bits R (a gears k) small e))
+          absurd (omega (arith, s .1 .none end, s .1 .least k l e, not-as-far R (a gears k) small e))

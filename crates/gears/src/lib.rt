@@ -66,49 +66,57 @@ pub fn first_not_falling(gears: [Gear; 16], count: usize) -> usize
 pub const CEILING: Hundredths = Hundredths(300);
 
 // |x − y|
-fn distance(x: u16, y: u16) -> u16
-    ensures { λ r. ⌜ r ≡ gap x y ⌝ }
+fn distance(x: Hundredths, y: Hundredths) -> Hundredths
+    ensures { λ r. ⌜ r .0 ≡ gap (x .0) (y .0) ⌝ }
 {
-    if x < y { y - x } else { x - y }
+    if x.0 < y.0 {
+        Hundredths(y.0 - x.0)
+    } else {
+        Hundredths(x.0 - y.0)
+    }
 }
 
-// Whether rule 2 is for an acceleration.
-fn is_near(reference: u16, x: u16) -> bool
-    ensures { λ r. ⌜ r ≡ near reference x ⌝ }
+// Whether an acceleration is near enough to R, which is a_ref, and low enough for rule 2.
+fn is_near(a_ref: Hundredths, x: Hundredths) -> bool
+    ensures { λ r. ⌜ r ≡ near («a_ref» .0) (x .0) ⌝ }
 {
-    (20 * distance(x, reference) as u32 <= reference as u32) & (x <= CEILING.0)
+    let d = distance(x, a_ref);
+    (20 * d.0 as u32 <= a_ref.0 as u32) & (x.0 <= CEILING.0)
 }
 
-// The nearest gear so far: its place, and how far it is from R. (65,536 is farther than any.)
+// The nearest gear so far: its place, and how far it is from R.
 struct Best {
     place: usize,
-    distance: u32,
+    distance: Hundredths,
 }
 
+// Farther from R than any gear that rule 2 can take.
+const FARTHEST: Hundredths = Hundredths(65535);
+
 // The gear at `place`, with the acceleration x, taken into account.
-fn better(best: Best, place: usize, x: u16, reference: u16) -> Best
-    ensures { λ r. ⌜ r ≡ cond (near reference x && ltb (gap x reference) (best .distance)) (record { place = place; distance = gap x reference }) best ⌝ }
+fn better(best: Best, place: usize, x: Hundredths, a_ref: Hundredths) -> Best
+    ensures { λ r. ⌜ r ≡ cond (near («a_ref» .0) (x .0) && ltb (gap (x .0) («a_ref» .0)) (best .distance .0)) (record { place = place; distance = record { 0 = gap (x .0) («a_ref» .0) } }) best ⌝ }
 {
-    let d = distance(x, reference) as u32;
-    if is_near(reference, x) & (d < best.distance) {
+    let d = distance(x, a_ref);
+    if is_near(a_ref, x) & (d.0 < best.distance.0) {
         return Best { place, distance: d };
     }
     best
 }
 
 // The place that rule 2 takes; `count` if it takes none.
-pub fn nearest_place(gears: [Gear; 16], count: usize, reference: Reference) -> usize
+fn nearest_place(gears: [Gear; 16], count: usize, reference: Reference) -> usize
     requires { ⌜ count ≤ 16 ⌝ }
     ensures { λ r. ⌜ r ≡ nearest (reference .«a_ref» .0) (take count gears) ⌝ }
 {
     let mut best = Best {
         place: count,
-        distance: 65536,
+        distance: FARTHEST,
     };
     let mut i = 0;
     while i < count {
         let g = gears[i];
-        best = better(best, i, g.acceleration.0, reference.a_ref.0);
+        best = better(best, i, g.acceleration, reference.a_ref);
         i += 1;
     }
     best.place

@@ -12,8 +12,8 @@ use Rattle.level.specs.declared.Side.{Side}
 use Rattle.level.specs.declared.Side.the-variants.{Corrected, NotValid}
 use Rattle.level.specs.Reading.{inRange}
 
--- Step 1: the exact value of a level rounded to a tenth, as a number of tenths. (A NaN and an infinity have none: 0. Whether a float is a level
--- is asked first.)
+-- Step 1: the exact value of a level rounded to a tenth, as a number of tenths. Only a level in range is rounded, so what stands here for any
+-- other float does not matter: 0 for a NaN and an infinity, and a negative float as if it had no sign.
 unfoldable pub tenthsOf : Float → ℕ
 tenthsOf nan = 0
 tenthsOf (inf s) = 0

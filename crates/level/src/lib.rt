@@ -95,16 +95,23 @@ pub enum Side {
     NotValid,
 }
 
-// What is taken off for a whole difference of 10, 11, .. 15 dB, in tenths of dB.
-const CORRECTIONS: [u16; 6] = [5, 4, 3, 2, 1, 0];
+// What is taken off for a whole difference of 10, 11, .. 15 dB.
+const CORRECTIONS: [Tenths; 6] = [
+    Tenths(5),
+    Tenths(4),
+    Tenths(3),
+    Tenths(2),
+    Tenths(1),
+    Tenths(0),
+];
 
-// What is taken off for a difference of `d` tenths.
-pub fn correction(d: u16) -> u16
-    requires { ⌜ 100 ≤ d ⌝ }
-    ensures { λ r. ⌜ r ≡ correctionOf d ⌝ }
+// What is taken off for a difference d.
+fn correction(d: Tenths) -> Tenths
+    requires { ⌜ 100 ≤ d .0 ⌝ }
+    ensures { λ r. ⌜ r .0 ≡ correctionOf (d .0) ⌝ }
 {
-    let at = (d / 10 - 10) as usize;
-    if at < 6 { CORRECTIONS[at] } else { 0 }
+    let at = (d.0 / 10 - 10) as usize;
+    if at < 6 { CORRECTIONS[at] } else { Tenths(0) }
 }
 
 // A rounded level against its background.
@@ -114,11 +121,11 @@ pub fn corrected(level: Tenths, background: Tenths) -> Side
     if level.0 < background.0 {
         return Side::NotValid;
     }
-    let d = level.0 - background.0;
-    if d < 100 {
+    let d = Tenths(level.0 - background.0);
+    if d.0 < 100 {
         return Side::NotValid;
     }
-    Side::Corrected(Tenths(level.0 - correction(d)))
+    Side::Corrected(Tenths(level.0 - correction(d).0))
 }
 
 // The validity rule of one side.

@@ -1,10 +1,14 @@
-// The line that the evaluation program prints, laid out on a lent buffer.
+// The line that the evaluation program prints for a sheet, laid out on a lent buffer.
 use refusal::Answer;
 ghost use mathlib.Core.Path.{_≡_};
 ghost use Prim.Native.Nat.{_≤_};
-ghost use lib.ListN.{length, take};
+ghost use lib.ListN.{length};
 ghost use Rattle.result.specs.Result.{outcomeIn, fieldsOf};
-ghost use Rattle.line.specs.Line.{lineOf};
+ghost use Rattle.text.specs.Text.{onto};
+ghost use Rattle.line.specs.Line.{lineOf, lineOfSheet};
+
+// Room for a line: the word, 13 numbers of at most 20 digits, their spaces and the line feed.
+pub const ROOM: usize = 276;
 
 // The 13 fields of the result record as they are printed, pass last.
 fn fields_of(result: &[u8]) -> [u64; 13]
@@ -30,12 +34,13 @@ fn fields_of(result: &[u8]) -> [u64; 13]
     ]
 }
 
-// The line for an answer and its result buffer, with its line feed; answers how many bytes it takes.
-pub fn line(answer: Answer, result: &[u8], out: &mut [u8]) -> usize
+// The line for an answer and its result buffer, with its line feed, at the front of `out`; answers how many bytes it takes. The bytes behind
+// it stay.
+fn line(answer: Answer, result: &[u8], out: &mut [u8]) -> usize
     requires { ⌜ 32 ≤ length (now result) ⌝ }
     requires { ⌜ 276 ≤ length (now out) ⌝ }
-    ensures { λ r. ⌜ r ≤ 276 ⌝ }
-    ensures { λ r. ⌜ take r (now (out .exit)) ≡ lineOf answer (now (result .entry)) ⌝ }
+    ensures size { λ r. ⌜ (r ≡ length (lineOf answer (now (result .entry)))) × (r ≤ 276) ⌝ }
+    ensures bytes { λ _. ⌜ now (out .exit) ≡ onto (lineOf answer (now (result .entry))) (now (out .entry)) ⌝ }
 {
     match answer {
         Answer::Accepted => text::put_line(b"OK", &fields_of(result), out),
@@ -45,4 +50,15 @@ pub fn line(answer: Answer, result: &[u8], out: &mut [u8]) -> usize
             out,
         ),
     }
+}
+
+// Evaluates a sheet and lays out its line.
+pub fn sheet_line(sheet: &[u8], out: &mut [u8]) -> usize
+    requires { ⌜ 276 ≤ length (now out) ⌝ }
+    ensures size { λ r. ⌜ (r ≡ length (lineOfSheet (now (sheet .entry)))) × (r ≤ 276) ⌝ }
+    ensures bytes { λ _. ⌜ now (out .exit) ≡ onto (lineOfSheet (now (sheet .entry))) (now (out .entry)) ⌝ }
+{
+    let mut result = [0u8; 32];
+    let answer = evaluation::evaluate(sheet, &mut result);
+    line(answer, &result, out)
 }

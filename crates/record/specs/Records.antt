@@ -14,14 +14,8 @@ use Rattle.level.specs.declared.Found.{Found}
 use Rattle.level.specs.declared.Found.the-variants as found
 use Rattle.level.specs.Reading.{readingOf}
 use Rattle.record.specs.declared.Vehicle.{Vehicle}
-use Rattle.record.specs.declared.VehicleRecord.{VehicleRecord}
-use Rattle.record.specs.declared.VehicleRecord.the-variants as vehicle
 use Rattle.record.specs.declared.Run.{Run}
-use Rattle.record.specs.declared.RunRecord.{RunRecord}
-use Rattle.record.specs.declared.RunRecord.the-variants as run
 use Rattle.record.specs.declared.Closing.{Closing}
-use Rattle.record.specs.declared.ClosingRecord.{ClosingRecord}
-use Rattle.record.specs.declared.ClosingRecord.the-variants as closing
 
 -- how many whole records a byte string has
 unfoldable pub records : List ℕ → ℕ
@@ -91,9 +85,6 @@ vehicleIn r =
       limit = word r 14;
     }
 
-unfoldable pub vehicleOf : List ℕ → VehicleRecord
-vehicleOf r = cond (vehicleGood r) (vehicle.Good (vehicleIn r)) vehicle.Broken
-
 -- "From levels to windows", step 6: the path in cm, c + length, c 2,000 from AA' and 1,000 from PP'
 abbrev pub pathOf : Vehicle → ℕ
 pathOf v = cond (eqb (v .«start_line») 0) 2000 1000 + v .length
@@ -146,9 +137,6 @@ runIn r =
       «engine_speed» = word r 20;
     }
 
-unfoldable pub runOf : List ℕ → RunRecord
-runOf r = cond (runGood r) (run.Good (runIn r)) run.Broken
-
 -- the reading of a kind and a float: 1 a level, 2 an overload, else absent
 unfoldable pub readingFrom : ℕ → Float → Reading
 readingFrom kind x = cond (eqb kind 1) (Level x) (cond (eqb kind 2) (Overload x) Absent)
@@ -171,6 +159,3 @@ closingGood r = allOf (closingTests r)
 -- the number of run records, and the background after
 unfoldable pub closingIn : List ℕ → Closing
 closingIn r = record { runs = word r 2; background = record { 0 = word r 4 } }
-
-unfoldable pub closingOf : List ℕ → ClosingRecord
-closingOf r = cond (closingGood r) (closing.Good (closingIn r)) closing.Broken

@@ -11,7 +11,7 @@ ghost use lib.Ieee.{binary32, nanBits};
 ghost use lib.Dec.{leb, eqb};
 ghost use Rattle.units.specs.Bytes.{number};
 ghost use Rattle.level.specs.Reading.{readingOf};
-ghost use Rattle.record.specs.Records.{recordAt, byte, word, within, zeros, vehicleGood, vehicleIn, vehicleOf, pathOf, runIn, readingFrom, readable, runGood, runOf, closingGood, closingIn, closingOf};
+ghost use Rattle.record.specs.Records.{recordAt, byte, word, within, zeros, vehicleGood, vehicleIn, pathOf, runIn, readingFrom, readable, runGood, closingGood, closingIn};
 
 // A record: the constants that belong to it, and how one is shown.
 pub struct Record;
@@ -47,7 +47,7 @@ impl Record {
 // ---- fields
 
 // Whether a byte is from `low` to `high`.
-pub fn byte_within(r: &[u8], at: usize, low: u8, high: u8) -> bool
+fn byte_within(r: &[u8], at: usize, low: u8, high: u8) -> bool
     requires { ⌜ at < length (now r) ⌝ }
     ensures { λ ok. ⌜ ok ≡ within low high (byte (now (r .entry)) at) ⌝ }
 {
@@ -56,7 +56,7 @@ pub fn byte_within(r: &[u8], at: usize, low: u8, high: u8) -> bool
 }
 
 // Whether a 16-bit number is from `low` to `high`.
-pub fn word_within(r: &[u8], at: usize, low: u16, high: u16) -> bool
+fn word_within(r: &[u8], at: usize, low: u16, high: u16) -> bool
     requires { ⌜ at + 2 ≤ length (now r) ⌝ }
     ensures { λ ok. ⌜ ok ≡ within low high (word (now (r .entry)) at) ⌝ }
 {
@@ -65,7 +65,7 @@ pub fn word_within(r: &[u8], at: usize, low: u16, high: u16) -> bool
 }
 
 // Whether the bytes from `at` to before `end` are zero. All are read, so that the loop has no branch in it.
-pub fn blank(r: &[u8], at: usize, end: usize) -> bool
+fn blank(r: &[u8], at: usize, end: usize) -> bool
     requires { ⌜ (at ≤ end) × (end ≤ length (now r)) ⌝ }
     ensures { λ ok. ⌜ ok ≡ zeros (now (r .entry)) at (end - at) ⌝ }
 {
@@ -97,11 +97,6 @@ pub struct Vehicle {
     pub background: Tenths,
     // whole dB(A)
     pub limit: u16,
-}
-
-pub enum VehicleRecord {
-    Good(Vehicle),
-    Broken,
 }
 
 pub fn vehicle_good(r: &[u8]) -> bool
@@ -136,17 +131,6 @@ pub fn vehicle_in(r: &[u8]) -> Vehicle
         rated_speed: units::number16(r, 10),
         background: Tenths(units::number16(r, 12)),
         limit: units::number16(r, 14),
-    }
-}
-
-// The vehicle record that stands in `r`.
-pub fn read_vehicle(r: &[u8]) -> VehicleRecord
-    ensures { λ v. ⌜ v ≡ vehicleOf (now (r .entry)) ⌝ }
-{
-    if vehicle_good(r) {
-        VehicleRecord::Good(vehicle_in(r))
-    } else {
-        VehicleRecord::Broken
     }
 }
 
@@ -229,11 +213,6 @@ impl Run {
     }
 }
 
-pub enum RunRecord {
-    Good(Run),
-    Broken,
-}
-
 // Whether a kind byte and the four bytes from `at` give a reading.
 fn readable_at(kind: u8, r: &[u8], at: usize) -> bool
     requires { ⌜ at + 4 ≤ length (now r) ⌝ }
@@ -274,17 +253,6 @@ pub fn run_good(r: &[u8]) -> bool
         & blank(r, 22, 32)
 }
 
-// The run record that stands in `r`.
-pub fn read_run(r: &[u8]) -> RunRecord
-    ensures { λ v. ⌜ v ≡ runOf (now (r .entry)) ⌝ }
-{
-    if run_good(r) {
-        RunRecord::Good(run_in(r))
-    } else {
-        RunRecord::Broken
-    }
-}
-
 // ---- the closing record
 
 pub struct Closing {
@@ -292,11 +260,6 @@ pub struct Closing {
     pub runs: u16,
     // after the runs
     pub background: Tenths,
-}
-
-pub enum ClosingRecord {
-    Good(Closing),
-    Broken,
 }
 
 pub fn closing_good(r: &[u8]) -> bool
@@ -315,16 +278,5 @@ pub fn closing_in(r: &[u8]) -> Closing
     Closing {
         runs: units::number16(r, 2),
         background: Tenths(units::number16(r, 4)),
-    }
-}
-
-// The closing record that stands in `r`.
-pub fn read_closing(r: &[u8]) -> ClosingRecord
-    ensures { λ v. ⌜ v ≡ closingOf (now (r .entry)) ⌝ }
-{
-    if closing_good(r) {
-        ClosingRecord::Good(closing_in(r))
-    } else {
-        ClosingRecord::Broken
     }
 }

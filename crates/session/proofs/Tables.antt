@@ -1,51 +1,132 @@
--- The gears that remain, place by place. Assumes nothing.
+-- The gears that remain, place by place, and the table of them. Assumes nothing.
 use mathlib.Core.Path.{_≡_, refl, sym, ap, _∙_}
-use mathlib.Core.List.{List, _++_, map}
-use Prim.Native.Nat.{ℕ, suc, _+_, _-_, _≤_, _<_}
+use mathlib.Core.List.{List, [], _∷_, _++_, map, map-append, append-nil}
+use Prim.Native.Nat.{ℕ, zero, suc, _+_, _-_, _≤_, _<_}
+use native.Mathlib.Nat.{zero-add}
+use native.Mathlib.Numerals.{add-one}
 use native.Mathlib.Omega.{arith}
-use lib.ListN.{length, take, set}
+use lib.ListN.{length, take, set, replicate, length-map, length-append}
+use lib.Seq.{set-at, take-at, append-snoc}
 use Rattle.units.proofs.Lowest.{found}
-use Rattle.units.proofs.Gathering.{gather, gathered}
 use Rattle.window.specs.declared.Four.{Four}
+use Rattle.window.specs.Windows.{emptyFour}
 use Rattle.gears.specs.declared.Gear.{Gear}
+use Rattle.gears.specs.Rules.{emptyGear}
 use Rattle.session.specs.declared.State.{State}
-use Rattle.session.specs.declared.State.the-variants.{Remains}
-use Rattle.session.specs.Session.{Session, hasNoWindow, lowestNoWindow, stateOf, Entry, withRemaining, remainingFrom, remaining}
+use Rattle.session.specs.declared.State.the-variants.{Remains, Dropped, NoWindow, NoRun}
+use Rattle.session.specs.declared.Table.{Table}
+use Rattle.session.specs.Session.{Session, hasNoWindow, lowestNoWindow, stateOf, Entry, withRemaining, remainingFrom, remaining, gearsOf, windowsOf, stored, entriesOf, tableOf, gearsIn, windowsIn}
 
-module _ (t : Session) {A : Type 0} (part : Entry → A) where
-  step : (p : ℕ) → p < 16 → remainingFrom t p (16 - p) ≡ withRemaining (stateOf t (p + 1)) (remainingFrom t (p + 1) (16 - (p + 1)))
+-- ---- one place more
+
+module _ (t : Session) where
+  kept-in-front : (x : State) (a b : List Entry) → withRemaining x (a ++ b) ≡ withRemaining x a ++ b
+  kept-in-front (Remains g f) a b = refl
+  kept-in-front Dropped a b = refl
+  kept-in-front NoWindow a b = refl
+  kept-in-front NoRun a b = refl
+
+  -- the last of the places adds what becomes of its gear
+  last-place : (p count : ℕ) → remainingFrom t p (suc count) ≡ remainingFrom t p count ++ withRemaining (stateOf t (p + count + 1)) []
   unfolding remainingFrom
-  step p h = let more : 16 - p ≡ suc (16 - (p + 1)) = omega arith in rw more
+  last-place p zero = ap (λ (n : ℕ). withRemaining (stateOf t (n + 1)) []) (omega arith)
+  last-place p (suc count) =
+      let here : p + 1 + count + 1 ≡ p + suc count + 1 = omega arith in
+      ap (withRemaining (stateOf t (p + 1))) (last-place (p + 1) count)
+      ∙ kept-in-front (stateOf t (p + 1)) (remainingFrom t (p + 1) count) _
+      ∙ ap (λ (n : ℕ). withRemaining (stateOf t (p + 1)) (remainingFrom t (p + 1) count) ++ withRemaining (stateOf t n) []) here
 
-  -- a part of each entry found before place p, the first `count` of xs, and of each from p on, are those of all entries
+  few-remain : (p count : ℕ) → length (remainingFrom t p count) ≤ count
+  unfolding remainingFrom
+  few-remain p zero = omega arith
+  few-remain p (suc count) = by (stateOf t (p + 1)) (remainingFrom t (p + 1) count) (few-remain (p + 1) count)
+    where
+      by : (x : State) (entries : List Entry) → length entries ≤ count → length (withRemaining x entries) ≤ suc count
+      by (Remains g f) entries h = omega arith
+      by Dropped entries h = omega arith
+      by NoWindow entries h = omega arith
+      by NoRun entries h = omega arith
+
+-- ---- a part of each entry, stored in an array
+
+module _ {A : Type 0} (filler : A) where
+  store : (xs : List A) (x : A) (count : ℕ) → length xs ≡ count → count < 16 → set (stored filler xs) count x ≡ stored filler (xs ++ (x ∷ []))
+  store xs x count e h =
+      let room : 16 - length xs ≡ suc (16 - (length xs + 1)) = omega arith in
+      ap (λ (n : ℕ). set (xs ++ replicate n filler) count x) room
+      ∙ set-at xs filler (replicate (16 - (length xs + 1)) filler) x count e
+      ∙ sym (append-snoc xs x (replicate (16 - (length xs + 1)) filler))
+      ∙ ap (λ (n : ℕ). xs ++ (x ∷ []) ++ replicate (16 - n) filler) (sym (length-append xs (x ∷ [])))
+
+  taken : (xs : List A) → take (length xs) (stored filler xs) ≡ xs
+  taken xs = take-at xs _ (length xs) refl
+
+-- the entries of the places before p, a part of each at the front of xs
+module _ (t : Session) {A : Type 0} (filler : A) (part : Entry → A) where
   pub Tabling : List A → ℕ → ℕ → Type 0
-  Tabling xs count p = take count xs ++ map part (remainingFrom t p (16 - p)) ≡ map part (remaining t)
+  Tabling xs count p = (xs ≡ stored filler (map part (remainingFrom t 0 p))) × (count ≡ length (remainingFrom t 0 p))
 
-  pub tabling-start : (xs : List A) → Tabling xs 0 0
-  unfolding Tabling remaining
-  tabling-start xs = refl
+  pub tabling-start : Tabling (replicate 16 filler) 0 0
+  unfolding Tabling remainingFrom
+  tabling-start = (refl, refl)
 
-  ahead-is : (xs : List A) (count p : ℕ) (x : State) → p < 16 → stateOf t (p + 1) ≡ x → Tabling xs count p → take count xs ++ map part (withRemaining x (remainingFrom t (p + 1) (16 - (p + 1)))) ≡ map part (remaining t)
+  next : (p : ℕ) (x : State) → stateOf t (p + 1) ≡ x → remainingFrom t 0 (p + 1) ≡ remainingFrom t 0 p ++ withRemaining x []
+  next p x e =
+      ap (remainingFrom t 0) (add-one p)
+      ∙ last-place t 0 p
+      ∙ ap (λ (n : ℕ). remainingFrom t 0 p ++ withRemaining (stateOf t (n + 1)) []) (zero-add p)
+      ∙ ap (λ (y : State). remainingFrom t 0 p ++ withRemaining y []) e
+
+  pub tabling-remains : (xs : List A) (count p : ℕ) (g : Gear) (f : Four) → p < 16 → stateOf t (p + 1) ≡ Remains g f → Tabling xs count p → Tabling (set xs count (part (record { gear = g; window = f }))) (count + 1) (p + 1)
   unfolding Tabling
-  ahead-is xs count p x h e g =
-      sym (ap (λ (l : List Entry). take count xs ++ map part l) (step p h ∙ ap (λ (v : State). withRemaining v (remainingFrom t (p + 1) (16 - (p + 1)))) e)) ∙ g
-
-  pub tabling-remains : (xs : List A) (count p : ℕ) (g : Gear) (f : Four) → p < 16 → count < length xs → stateOf t (p + 1) ≡ Remains g f → Tabling xs count p → Tabling (set xs count (part (record { gear = g; window = f }))) (count + 1) (p + 1)
-  unfolding Tabling
-  tabling-remains xs count p g f h l e r = gather xs count _ _ (part (record { gear = g; window = f })) l (ahead-is xs count p (Remains g f) h e r)
+  tabling-remains xs count p g f h e r =
+      let entries = remainingFrom t 0 p in
+      let entry : Entry = record { gear = g; window = f } in
+      let more = next p (Remains g f) e in
+      let long : length (map part entries) ≡ count = length-map entries part ∙ sym (r .1) in (
+        ap (λ (l : List A). set l count (part entry)) (r .0)
+            ∙ store filler (map part entries) (part entry) count long (omega (arith, few-remain t 0 p, r .1))
+            ∙ ap (stored filler) (sym (ap (map part) more ∙ map-append part entries (entry ∷ []))),
+        sym (ap length more ∙ length-append entries (entry ∷ []) ∙ ap (λ (n : ℕ). n + 1) (sym (r .1))),
+      )
 
   -- a gear of any other state adds nothing
-  pub tabling-other : (x : State) → ((entries : List Entry) → withRemaining x entries ≡ entries) → (xs : List A) (count p : ℕ) → p < 16 → stateOf t (p + 1) ≡ x → Tabling xs count p → Tabling xs count (p + 1)
+  pub tabling-other : (x : State) → withRemaining x [] ≡ [] → (xs : List A) (count p : ℕ) → stateOf t (p + 1) ≡ x → Tabling xs count p → Tabling xs count (p + 1)
   unfolding Tabling
-  tabling-other x keeps xs count p h e r =
-      sym (ap (λ (l : List Entry). take count xs ++ map part l) (keeps (remainingFrom t (p + 1) (16 - (p + 1))))) ∙ ahead-is xs count p x h e r
-
-  pub tabling-all : (xs : List A) (count p : ℕ) → 16 ≤ p → Tabling xs count p → take count xs ≡ map part (remaining t)
-  unfolding Tabling remainingFrom
-  tabling-all xs count p h r = let none : 16 - p ≡ 0 = omega arith in gathered xs count _ _ (rw none) r
+  tabling-other x none xs count p e r =
+      let same : remainingFrom t 0 (p + 1) ≡ remainingFrom t 0 p = next p x e ∙ ap (λ (l : List Entry). remainingFrom t 0 p ++ l) none ∙ append-nil (remainingFrom t 0 p) in
+      rw same r
 
 -- ---- row 7
 
 pub no-window-most : (t : Session) → lowestNoWindow t ≤ 16
 unfolding lowestNoWindow
 no-window-most t = found (λ p. hasNoWindow (stateOf t (p + 1))) 16 0 .most
+
+-- ---- the table
+
+pub table-is : (t : Session) (gears : List Gear) (windows : List Four) (count p : ℕ) → lowestNoWindow t ≡ p → Tabling t emptyGear (λ e. e .gear) gears count p → Tabling t emptyFour (λ e. e .window) windows count p → record { gears = gears; windows = windows; count = count; «no_window» = p } ≡ tableOf t
+unfolding Tabling tableOf entriesOf
+table-is t gears windows count p e g w = rw (e, g .0, w .0, g .1)
+
+-- what a table says of its session
+pub record Tabled (t : Session) (r : Table) : Type 0 where
+  pub no-window : r .«no_window» ≡ lowestNoWindow t
+  pub few : r .count ≤ 16
+  pub counted : length (gearsIn r) ≡ r .count
+  pub gears : r .«no_window» ≡ 16 → gearsIn r ≡ gearsOf t
+  pub windows : r .«no_window» ≡ 16 → windowsIn r ≡ windowsOf t
+
+front-of : {A : Type 0} (filler : A) (part : Entry → A) (entries : List Entry) → take (length entries) (stored filler (map part entries)) ≡ map part entries
+front-of filler part entries = ap (λ (n : ℕ). take n (stored filler (map part entries))) (sym (length-map entries part)) ∙ taken filler (map part entries)
+
+pub tabled : (t : Session) → Tabled t (tableOf t)
+unfolding tableOf entriesOf gearsOf windowsOf remaining
+tabled t =
+    record {
+      no-window = refl;
+      few = omega (arith, few-remain t 0 (lowestNoWindow t), no-window-most t);
+      counted = ap length (front-of emptyGear (λ e. e .gear) (entriesOf t)) ∙ length-map (entriesOf t) (λ e. e .gear);
+      gears = λ e. front-of emptyGear (λ e. e .gear) (entriesOf t) ∙ rw e;
+      windows = λ e. front-of emptyFour (λ e. e .window) (entriesOf t) ∙ rw e;
+    }

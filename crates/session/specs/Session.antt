@@ -1,20 +1,21 @@
 -- The gears of a session (document 01, row 7 of the refusals, and "Gears"): which have no window, which are dropped, and which remain, each with
 -- its acceleration and its acceleration window.
-use mathlib.Core.Path.{_≡_}
 use mathlib.Core.Bool.{Bool, true, false, cond, _&&_}
-use mathlib.Core.List.{List, [], _∷_, map}
-use Prim.Native.Nat.{ℕ, zero, suc, _+_, _≤_}
+use mathlib.Core.List.{List, [], _∷_, _++_, map}
+use Prim.Native.Nat.{ℕ, zero, suc, _+_, _-_}
 use lib.Dec.{leb}
-use lib.ListN.{length, take}
+use lib.ListN.{length, take, replicate}
 use Rattle.units.specs.Tests.{lowest}
 use Rattle.sheet.specs.Sheet.{hasAcceleration}
 use Rattle.window.specs.declared.Four.{Four}
 use Rattle.window.specs.declared.Window.{Window}
 use Rattle.window.specs.declared.Window.the-variants as window
+use Rattle.window.specs.Windows.{emptyFour}
 use Rattle.valid_runs.specs.declared.Condition.{Condition}
 use Rattle.valid_runs.specs.ValidRuns.{windowOf}
 use Rattle.gears.specs.declared.Gear.{Gear}
 use Rattle.gears.specs.Acceleration.{accelerationOf, meanOf}
+use Rattle.gears.specs.Rules.{emptyGear}
 use Rattle.session.specs.declared.Track.{Track}
 use Rattle.session.specs.declared.State.{State}
 use Rattle.session.specs.declared.State.the-variants.{Remains, Dropped, NoWindow, NoRun}
@@ -100,18 +101,27 @@ windowsOf t = map (λ (e : Entry). e .window) (remaining t)
 
 -- ---- the table of a session
 
+-- an array of 16 with a list at its front, and the filler behind it
+abbrev pub stored : {A : Type 0} → A → List A → List A
+stored filler xs = xs ++ replicate (16 - length xs) filler
+
+-- those that remain below the lowest gear with an acceleration run and no window: all that remain, if there is none such
+unfoldable pub entriesOf : Session → List Entry
+entriesOf t = remainingFrom t 0 (lowestNoWindow t)
+
+-- the table: these gears and their acceleration windows, how many they are, and the lowest gear that has no window, less one
+unfoldable pub tableOf : Session → Table
+tableOf t =
+    record {
+      gears = stored emptyGear (map (λ (e : Entry). e .gear) (entriesOf t));
+      windows = stored emptyFour (map (λ (e : Entry). e .window) (entriesOf t));
+      count = length (entriesOf t);
+      «no_window» = lowestNoWindow t;
+    }
+
 -- the gears and the windows of a table: the first `count` of each array
 abbrev pub gearsIn : Table → List Gear
 gearsIn r = take (r .count) (r .gears)
 
 abbrev pub windowsIn : Table → List Four
 windowsIn r = take (r .count) (r .windows)
-
--- what a table says of a session: the lowest gear that has no window, less one; and, if each has one, the gears that remain and their
--- acceleration windows
-pub record Tabled (t : Session) (r : Table) : Type 0 where
-  pub no-window : r .«no_window» ≡ lowestNoWindow t
-  pub few : r .count ≤ 16
-  pub counted : length (gearsIn r) ≡ r .count
-  pub gears : r .«no_window» ≡ 16 → gearsIn r ≡ gearsOf t
-  pub windows : r .«no_window» ≡ 16 → windowsIn r ≡ windowsOf t

@@ -11,7 +11,7 @@ ghost use Prim.Native.Nat.{_≤_};
 ghost use Rattle.sheet.specs.Sheet.{RunsGood, hasAcceleration};
 ghost use Rattle.window.specs.Windows.{Each};
 ghost use Rattle.valid_runs.specs.ValidRuns.{NotSlower};
-ghost use Rattle.session.specs.Session.{sessionOf, conditionOf, windowIn, slowEnough, gearAcceleration, byWindow, stateOf, Tabled};
+ghost use Rattle.session.specs.Session.{sessionOf, conditionOf, windowIn, slowEnough, gearAcceleration, byWindow, stateOf, tableOf};
 
 // What a session is evaluated by, beside its runs.
 pub struct Track {
@@ -93,7 +93,7 @@ fn by_window(sheet: &[u8], track: Track, gear: u8) -> State
 }
 
 // The state of a gear; `here` says whether it has an acceleration run.
-pub fn state_of(sheet: &[u8], track: Track, gear: u8, here: bool) -> State
+fn state_of(sheet: &[u8], track: Track, gear: u8, here: bool) -> State
     requires { ⌜ RunsGood (now sheet) ⌝ }
     requires { ⌜ (1000 ≤ track .path) × (track .path ≤ 4000) ⌝ }
     requires { ⌜ here ≡ hasAcceleration (now sheet) gear ⌝ }
@@ -106,8 +106,8 @@ pub fn state_of(sheet: &[u8], track: Track, gear: u8, here: bool) -> State
     }
 }
 
-// The gears that remain, in rising number, each with its acceleration window: the first `count` of both arrays. If a gear has no window,
-// `no_window` is the place of the lowest such gear, gear p + 1 at place p, and the arrays say nothing; else it is 16.
+// The gears that remain, in rising number, each with its acceleration window: the first `count` of both arrays. If a gear has acceleration runs
+// and no window, `no_window` is the place of the lowest such gear, gear p + 1 at place p, and the arrays hold the gears below it; else it is 16.
 pub struct Table {
     pub gears: [Gear; 16],
     pub windows: [Four; 16],
@@ -119,7 +119,7 @@ pub struct Table {
 pub fn table_of(sheet: &[u8], track: Track) -> Table
     requires { ⌜ RunsGood (now sheet) ⌝ }
     requires { ⌜ (1000 ≤ track .path) × (track .path ≤ 4000) ⌝ }
-    ensures { λ r. ⌜ Tabled (sessionOf (now (sheet .entry)) track) r ⌝ }
+    ensures { λ r. ⌜ r ≡ tableOf (sessionOf (now (sheet .entry)) track) ⌝ }
 {
     let seen = sheet::present(sheet);
     let mut gears = [gears::EMPTY_GEAR; 16];

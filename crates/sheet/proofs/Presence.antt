@@ -3,14 +3,17 @@ use mathlib.Core.Path.{_≡_, refl, sym, ap, _∙_}
 use mathlib.Core.Bool.{Bool, true, false, _&&_, _||_, or-false}
 use mathlib.Core.List.{List}
 use Prim.Native.Nat.{ℕ, _+_, _-_, _≤_, _<_}
+use native.Mathlib.Nat.{zero-add}
+use native.Mathlib.Omega.{arith}
 use lib.Dec.{eqb}
 use lib.ListN.{length, getD, set}
-use lib.Seq.{getD-set-same, getD-set-other}
+use lib.Seq.{getD-set-same, getD-set-other, ext-getD}
 use borrow.Author.Tests.{eqb-true, eqb-false}
 use Rattle.units.specs.Tests.{some}
 use Rattle.units.proofs.Some.{some-here, some-next, some-end}
+use Rattle.units.proofs.Tests.{marks-long, marks-at}
 use Rattle.record.specs.Records.{recordAt, byte}
-use Rattle.sheet.specs.Sheet.{hasByte, accelerates}
+use Rattle.sheet.specs.Sheet.{hasByte, accelerates, hasAcceleration, presentOf}
 
 module _ (s : List ℕ) (end : ℕ) where
   -- record n is an acceleration run of the gear
@@ -56,3 +59,14 @@ module _ (s : List ℕ) (end : ℕ) where
   pub marked-end : (seen : List Bool) (i : ℕ) → end ≤ i → Marked seen i → (g : ℕ) → g ≤ 16 → getD seen g false ≡ some (of g) (end - 1) 1
   unfolding Marked
   marked-end seen i h r g l = sym (or-false (getD seen g false)) ∙ sym (ap (λ (t : Bool). getD seen g false || t) (some-end (of g) end i h)) ∙ r g l
+
+-- ---- all gears
+
+pub present-at : (s : List ℕ) (g : ℕ) → g ≤ 16 → getD (presentOf s) g false ≡ hasAcceleration s g
+unfolding presentOf
+present-at s g h = marks-at (hasAcceleration s) 17 0 g (omega arith) ∙ ap (hasAcceleration s) (zero-add g)
+
+pub present-is : (s : List ℕ) (seen : List Bool) → length seen ≡ 17 → ((g : ℕ) → g ≤ 16 → getD seen g false ≡ hasAcceleration s g) → seen ≡ presentOf s
+unfolding presentOf
+present-is s seen e at =
+    ext-getD false seen (presentOf s) (e ∙ sym (marks-long (hasAcceleration s) 17 0)) (λ g h. at g (omega arith) ∙ sym (present-at s g (omega arith)))

@@ -6,7 +6,7 @@ use mathlib.Core.List.{List}
 use Prim.Native.Nat.{ℕ, _+_, _-_, _%_, _≤_, _<_}
 use lib.Dec.{ltb, eqb}
 use lib.ListN.{length}
-use Rattle.units.specs.Tests.{lowest, some}
+use Rattle.units.specs.Tests.{lowest, some, marks}
 use Rattle.refusal.specs.declared.Refusal.the-variants.{WrongSize, NoVehicle, NoClosing, BrokenRecord}
 use Rattle.record.specs.Records.{records, recordAt, byte, word, vehicleGood, vehicleIn, runGood, closingGood, closingIn}
 use Rattle.sheet.specs.declared.Examination.{Examination}
@@ -68,3 +68,7 @@ anyAcceleration s = some (accelerates s) (records s - 2) 1
 -- a gear has an acceleration run
 unfoldable pub hasAcceleration : List ℕ → ℕ → Bool
 hasAcceleration s gear = some (λ n. accelerates s n && hasByte s 1 gear n) (records s - 2) 1
+
+-- which gears have one: gear 0, which no run has, to gear 16
+unfoldable pub presentOf : List ℕ → List Bool
+presentOf s = marks (hasAcceleration s) 17 0

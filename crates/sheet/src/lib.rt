@@ -5,12 +5,10 @@ use record::Record;
 use record::Vehicle;
 use refusal::Refusal;
 ghost use mathlib.Core.Path.{_≡_};
-ghost use mathlib.Core.Bool.{false};
-ghost use Prim.Native.Nat.{ℕ, _-_, _≤_, _<_};
-ghost use lib.ListN.{getD};
+ghost use Prim.Native.Nat.{_-_, _≤_, _<_};
 ghost use Rattle.units.specs.Tests.{lowest};
 ghost use Rattle.record.specs.Records.{records};
-ghost use Rattle.sheet.specs.Sheet.{lastOf, wrongSize, noVehicle, noClosing, goodAt, lowestBroken, examined, RunsGood, hasByte, anyAcceleration, hasAcceleration};
+ghost use Rattle.sheet.specs.Sheet.{lastOf, wrongSize, noVehicle, noClosing, goodAt, lowestBroken, examined, RunsGood, hasByte, anyAcceleration, presentOf};
 
 // What an examination finds: a whole sheet, or the first refusal.
 pub enum Examination {
@@ -122,10 +120,10 @@ pub fn any_acceleration(sheet: &[u8]) -> bool
     next_with(sheet, 0, Record::ACCELERATION, 1, last) < last
 }
 
-// Which gears have an acceleration run.
+// Which gears have an acceleration run, each at its number.
 pub fn present(sheet: &[u8]) -> [bool; 17]
     requires { ⌜ RunsGood (now sheet) ⌝ }
-    ensures { λ r. ⌜ ((g : ℕ) → g ≤ 16 → getD r g false ≡ hasAcceleration (now (sheet .entry)) g) ⌝ }
+    ensures { λ r. ⌜ r ≡ presentOf (now (sheet .entry)) ⌝ }
 {
     let last = sheet.len() / Record::SIZE - 1;
     let mut seen = [false; 17];

@@ -1,12 +1,14 @@
--- Laws of tests: where every test passes, each does; and a choice by a test. Assumes nothing.
+-- Laws of tests: where every test passes, each does; a choice by a test; the marks of numbers. Assumes nothing.
 use mathlib.Core.Path.{_≡_, refl, sym, ap, ap₂, _∙_}
 use mathlib.Core.Bool.{Bool, true, false, cond, _&&_, _||_, and-true, and-assoc, true≢false}
 use mathlib.Core.List.{List, [], _∷_}
-use Prim.Native.Nat.{ℕ, zero, suc}
+use Prim.Native.Nat.{ℕ, zero, suc, _+_, _<_}
+use native.Mathlib.Nat.{not-suc-le-zero}
+use native.Mathlib.Omega.{arith}
 use lib.Dec.{T}
 use lib.Ieee.Fits.{and-l, and-r}
-use lib.ListN.{getD}
-use Rattle.units.specs.Tests.{allOf}
+use lib.ListN.{length, getD}
+use Rattle.units.specs.Tests.{marks, allOf}
 
 pub each : (tests : List Bool) → T (allOf tests) → (k : ℕ) → T (getD tests k true)
 each [] t k = tt
@@ -50,3 +52,16 @@ both false q e = absurd (true≢false (sym e))
 pub neither : (p q : Bool) → (p || q) ≡ false → (p ≡ false) × (q ≡ false)
 neither true q e = absurd (true≢false e)
 neither false q e = (refl, e)
+
+-- ---- the marks of numbers
+
+pub marks-long : (test : ℕ → Bool) (count n : ℕ) → length (marks test count n) ≡ count
+unfolding marks
+marks-long test zero n = refl
+marks-long test (suc count) n = ap suc (marks-long test count (n + 1))
+
+pub marks-at : (test : ℕ → Bool) (count n k : ℕ) → k < count → getD (marks test count n) k false ≡ test (n + k)
+unfolding marks
+marks-at test zero n k h = absurd (not-suc-le-zero h)
+marks-at test (suc count) n zero h = ap test (omega arith)
+marks-at test (suc count) n (suc k) h = marks-at test count (n + 1) k (omega arith) ∙ ap test (omega arith)

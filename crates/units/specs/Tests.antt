@@ -18,6 +18,11 @@ unfoldable pub pastLast : (ℕ → Bool) → ℕ → ℕ
 pastLast test zero = 0
 pastLast test (suc n) = elim (test n) [ true ↦ suc n | false ↦ pastLast test n ]
 
+-- for each of the `count` numbers from n on, whether it passes the test
+unfoldable pub marks : (ℕ → Bool) → ℕ → ℕ → List Bool
+marks test zero n = []
+marks test (suc count) n = test n ∷ marks test count (n + 1)
+
 -- every test of the list passes
 abbrev pub allOf : List Bool → Bool
 allOf [] = true

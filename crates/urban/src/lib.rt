@@ -103,7 +103,7 @@ pub struct LUrban {
 }
 
 // kp from the two accelerations, in hundredths. Where they are equal it is 0 and nothing is divided.
-pub fn part_power(a_urban: Hundredths, a: Hundredths) -> u8
+fn part_power(a_urban: Hundredths, a: Hundredths) -> u8
     ensures { λ r. ⌜ r ≡ partPower («a_urban» .0) (a .0) ⌝ }
 {
     if a.0 <= a_urban.0 {

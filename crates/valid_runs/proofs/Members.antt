@@ -3,6 +3,7 @@ use mathlib.Core.Path.{_≡_, refl, ap, _∙_}
 use mathlib.Core.List.{List}
 use Prim.Native.Nat.{ℕ, zero, suc, _+_, _-_, _≤_, _<_}
 use native.Mathlib.Nat.{le-of-suc-le-suc, not-suc-le-zero}
+use native.Mathlib.Numerals.{add-one}
 use native.Mathlib.Omega.{arith}
 use lib.ListN.{length, getD}
 use Rattle.units.specs.Bytes.{number}
@@ -40,6 +41,17 @@ module _ (s : List ℕ) (o : Condition) where
       by (Valid v) e (suc j) l rest = later (rest j (le-of-suc-le-suc l))
       by NotValid e j l rest = later (rest j l)
 
+  -- the runs of a rest stand in the sheet's order
+  pub rest-rises : (count from k : ℕ) → k + 1 < length (restFrom s o from count) → getD (restFrom s o from count) k emptyRun .number < getD (restFrom s o from count) (k + 1) emptyRun .number
+  unfolding restFrom
+  rest-rises zero from k h = absurd (not-suc-le-zero h)
+  rest-rises (suc count) from k h = by (candidateOf s o from) refl k h (rest-rises count (from + 1))
+    where
+      by : (x : Validity) → candidateOf s o from ≡ x → (k : ℕ) → k + 1 < length (withValid x (restFrom s o (from + 1) count)) → ((j : ℕ) → j + 1 < length (restFrom s o (from + 1) count) → getD (restFrom s o (from + 1) count) j emptyRun .number < getD (restFrom s o (from + 1) count) (j + 1) emptyRun .number) → getD (withValid x (restFrom s o (from + 1) count)) k emptyRun .number < getD (withValid x (restFrom s o (from + 1) count)) (k + 1) emptyRun .number
+      by (Valid v) e zero l rest = omega (arith, counts s o from v e .at, member count (from + 1) 0 (le-of-suc-le-suc l) .first)
+      by (Valid v) e (suc j) l rest = rw (add-one (suc j)) (rw (add-one j) at (rest j (omega (arith, l))))
+      by NotValid e j l rest = rest j l
+
 -- ---- the four runs of a window
 
 -- what holds of every run of the rest holds of the window's four
@@ -53,6 +65,26 @@ each-of P rest f all e =
 pub window-members : (s : List ℕ) (o : Condition) (f : Four) → windowOf s o ≡ Runs f → Each (Member s o 1 (records s - 2)) f
 unfolding windowOf restOf
 window-members s o f e = each-of (Member s o 1 (records s - 2)) (restOf s o) f (member s o (records s - 2) 1) e
+
+-- and stand in the sheet's order
+pub record InOrder (f : Four) : Type 0 where
+  pub ab : f .a .number < f .b .number
+  pub bc : f .b .number < f .c .number
+  pub cd : f .c .number < f .d .number
+
+pub window-in-order : (s : List ℕ) (o : Condition) (f : Four) → windowOf s o ≡ Runs f → InOrder f
+unfolding windowOf restOf fourAt
+window-in-order s o f e =
+    let w = first-is (restOf s o) f e in
+    let next = rest-rises s o (records s - 2) 1 in
+    let second : w .place + 1 + 1 ≡ w .place + 2 = omega arith in
+    let third : w .place + 2 + 1 ≡ w .place + 3 = omega arith in
+    rw (w .is)
+    (record {
+      ab = next (w .place) (omega (arith, w .inside));
+      bc = rw second at (next (w .place + 1) (omega (arith, w .inside)));
+      cd = rw third at (next (w .place + 2) (omega (arith, w .inside)));
+    })
 
 -- ---- the speeds of an acceleration run
 

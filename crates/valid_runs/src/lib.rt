@@ -59,7 +59,7 @@ pub fn valid(run: Run, background: Tenths, number: u16) -> Validity
 }
 
 // Record `number` of a sheet as a run of a condition.
-pub fn candidate(sheet: &[u8], condition: Condition, number: u16) -> Validity
+fn candidate(sheet: &[u8], condition: Condition, number: u16) -> Validity
     requires { ⌜ (number < records (now sheet)) × (runGood (recordAt (now sheet) number) ≡ true) ⌝ }
     ensures { λ r. ⌜ r ≡ candidateOf (now (sheet .entry)) condition number ⌝ }
 {

@@ -45,40 +45,44 @@ pub const EMPTY_FOUR: Four = Four {
     d: EMPTY_RUN,
 };
 
-fn least(a: u16, b: u16) -> u16
-    ensures { λ r. ⌜ r ≡ min a b ⌝ }
+fn least(a: Tenths, b: Tenths) -> Tenths
+    ensures { λ r. ⌜ r .0 ≡ min (a .0) (b .0) ⌝ }
 {
-    if a < b { a } else { b }
+    if a.0 < b.0 { a } else { b }
 }
 
-fn most(a: u16, b: u16) -> u16
-    ensures { λ r. ⌜ r ≡ max a b ⌝ }
+fn most(a: Tenths, b: Tenths) -> Tenths
+    ensures { λ r. ⌜ r .0 ≡ max (a .0) (b .0) ⌝ }
 {
-    if a < b { b } else { a }
+    if a.0 < b.0 { b } else { a }
 }
+
+// The widest span of four neighbours, 2.0 dB.
+const WIDEST: Tenths = Tenths(20);
 
 // Whether four levels span at most 2.0 dB.
-pub fn spans(a: u16, b: u16, c: u16, d: u16) -> bool
-    ensures { λ r. ⌜ r ≡ spanned a b c d ⌝ }
+fn spans(a: Tenths, b: Tenths, c: Tenths, d: Tenths) -> bool
+    ensures { λ r. ⌜ r ≡ spanned (a .0) (b .0) (c .0) (d .0) ⌝ }
 {
     let high = most(most(a, b), most(c, d));
     let low = least(least(a, b), least(c, d));
-    let limit = low as u32 + 20;
-    (high as u32) <= limit
+    let limit = low.0 as u32 + WIDEST.0 as u32;
+    (high.0 as u32) <= limit
 }
 
 // The four-value test: both sides of four runs.
 pub fn fits(f: Four) -> bool
     ensures { λ r. ⌜ r ≡ fitting f ⌝ }
 {
-    spans(f.a.left.0, f.b.left.0, f.c.left.0, f.d.left.0)
-        & spans(f.a.right.0, f.b.right.0, f.c.right.0, f.d.right.0)
+    spans(f.a.left, f.b.left, f.c.left, f.d.left)
+        & spans(f.a.right, f.b.right, f.c.right, f.d.right)
 }
 
-fn sum(a: u16, b: u16, c: u16, d: u16) -> u32
-    ensures { λ r. ⌜ (r ≡ a + b + c + d) × (r ≤ 262140) ⌝ }
+// Four levels added, in tenths of dB(A): four times their mean.
+fn sum(a: Tenths, b: Tenths, c: Tenths, d: Tenths) -> u32
+    ensures { λ r. ⌜ (r ≡ a .0 + b .0 + c .0 + d .0) × (r ≤ 262140) ⌝ }
 {
-    a as u32 + b as u32 + c as u32 + d as u32
+    a.0 as u32 + b.0 as u32 + c.0 as u32 + d.0 as u32
 }
 
 fn larger(a: u32, b: u32) -> u32
@@ -91,8 +95,8 @@ fn larger(a: u32, b: u32) -> u32
 pub fn condition_level(f: Four) -> Tenths
     ensures { λ r. ⌜ r .0 ≡ conditionLevel f ⌝ }
 {
-    let left = sum(f.a.left.0, f.b.left.0, f.c.left.0, f.d.left.0);
-    let right = sum(f.a.right.0, f.b.right.0, f.c.right.0, f.d.right.0);
+    let left = sum(f.a.left, f.b.left, f.c.left, f.d.left);
+    let right = sum(f.a.right, f.b.right, f.c.right, f.d.right);
     Tenths(units::round(larger(left, right), 4) as u16)
 }
 

@@ -1,5 +1,5 @@
 -- `decision::decide_whole` meets its contract, row by row. Assumes nothing.
-use mathlib.Core.Path.{_≡_, sym, ap, subst, _∙_}
+use mathlib.Core.Path.{_≡_, sym, ap, _∙_}
 use mathlib.Core.Bool.{Bool, true, false, cond}
 use Prim.Native.Nat.{ℕ, _+_, _≤_}
 use native.Mathlib.Omega.{arith}
@@ -12,8 +12,8 @@ use Rattle.sheet.specs.Sheet.{anyAcceleration}
 use Rattle.sheet.proofs.Examinations.{length-range, mass-positive, runs-good}
 use Rattle.reference.specs.Reference.{pmrOf, referenceAt}
 use Rattle.session.specs.declared.Track.{Track}
-use Rattle.session.specs.Session.{Session, sessionOf, Tabled}
-use Rattle.session.proofs.Tables.{no-window-most}
+use Rattle.session.specs.Session.{Session, sessionOf}
+use Rattle.session.proofs.Tables.{no-window-most, Tabled, tabled}
 use Rattle.decision.specs.declared.Decision.the-variants.{Refused}
 use Rattle.decision.specs.Decision.{outOfRange, trackOf, decideWhole, decisionOf}
 use Rattle.decision.proofs.Decisions.{decision-is, row-6, row-7-none, row-7-gear, rows-8-to-10, same-decision}
@@ -49,8 +49,10 @@ from-line true = (omega arith, omega arith)
 from-line false = (omega arith, omega arith)
 
 -- the table is the session's
-tabled : (c : tie.After-table-of) → Tabled (session (c .before .before .before .before .before .before .before)) (c .table-of .result)
-tabled c = let s = c .before .before .before .before .before .before .before in subst (λ (t : Track). Tabled (sessionOf (s .args .sheet .now) t) (c .table-of .result)) (c .before .track-of .ensures) (c .table-of .ensures)
+tabled-here : (c : tie.After-table-of) → Tabled (session (c .before .before .before .before .before .before .before)) (c .table-of .result)
+tabled-here c =
+    let s = c .before .before .before .before .before .before .before in
+    rw (c .table-of .ensures, c .before .track-of .ensures) (tabled (session s))
 
 pmr-requires : tie.Need-pmr-requires
 pmr-requires c κs = mass-positive _ _ _ (c .before .pre)
@@ -90,7 +92,7 @@ returns-3 c =
     let t = c .before .before .before in
     let e = t .before .before in
     let s = e .before .before .before .before .before in
-    let none = tabled t .no-window in
+    let none = tabled-here t .no-window in
     ap (λ (n : ℕ). Refused (NoWindow (n + 1))) none ∙ sym (is s ∙ row-7-gear (session s) (q s) _ (range (e .before .before)) (any e) (omega (arith, none)))
 
 cast-reference-at : tie.Need-cast-reference-at
@@ -100,17 +102,17 @@ reference-at-requires : tie.Need-reference-at-requires
 reference-at-requires c κs = pmr-range (c .before .before .before .before .before .before)
 
 decide-table-requires : tie.Need-decide-table-requires
-decide-table-requires c κs = (runs-good _ _ _ (c .before .before .before .before .before .before .before .before .before .before .pre), (tabled (c .before .before .before) .few, tabled (c .before .before .before) .counted))
+decide-table-requires c κs = (runs-good _ _ _ (c .before .before .before .before .before .before .before .before .before .before .pre), (tabled-here (c .before .before .before) .few, tabled-here (c .before .before .before) .counted))
 
 returns-4 : tie.Need-returns-4
 returns-4 c =
     let t = c .before .before .before .before in
     let e = t .before .before in
     let s = e .before .before .before .before .before in
-    let all : t .table-of .result .«no_window» ≡ 16 = omega (arith, tabled t .no-window, no-window-most (session s), c .before .before .if3 .left) in
+    let all : t .table-of .result .«no_window» ≡ 16 = omega (arith, tabled-here t .no-window, no-window-most (session s), c .before .before .if3 .left) in
     c .decide-table .ensures
-    ∙ same-decision (s .args .v .limit) (c .before .reference-at .ensures ∙ ap referenceAt (e .before .before .before .pmr .ensures)) (ap (sessionOf (s .args .sheet .now)) (t .before .track-of .ensures)) (tabled t .gears all) (tabled t .windows all)
-    ∙ sym (is s ∙ rows-8-to-10 (session s) (q s) _ (range (e .before .before)) (any e) (omega (arith, tabled t .no-window, all)))
+    ∙ same-decision (s .args .v .limit) (c .before .reference-at .ensures ∙ ap referenceAt (e .before .before .before .pmr .ensures)) (ap (sessionOf (s .args .sheet .now)) (t .before .track-of .ensures)) (tabled-here t .gears all) (tabled-here t .windows all)
+    ∙ sym (is s ∙ rows-8-to-10 (session s) (q s) _ (range (e .before .before)) (any e) (omega (arith, tabled-here t .no-window, all)))
 
 pub decide-whole-spec : {M : Type 1} → statement M
 decide-whole-spec =

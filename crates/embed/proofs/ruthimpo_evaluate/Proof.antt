@@ -1,7 +1,8 @@
 -- `embed::ruthimpo_evaluate` meets its contract: each number is that of the answer which `evaluate` gives. Assumes nothing.
-use mathlib.Core.Path.{ap, _∙_}
+use mathlib.Core.Path.{sym, ap, _∙_}
 use borrow.Author.Needs.{needs}
 use Rattle.refusal.specs.Refusal.{answerNumber, answerPlace}
+use Rattle.refusal.proofs.Numbers.{accepted-by-0}
 use Rattle.embed.proofs.ruthimpo_evaluate.Statement.{statement}
 use Rattle.embed.proofs.ruthimpo_evaluate.Tie as tie
 
@@ -23,7 +24,8 @@ same-length c = search needs
 returns : tie.Need-returns
 returns c =
     let e = c .before .before .before .before .evaluate in
-    (c .answer-number .ensures ∙ ap answerNumber (e .ensures .0), (c .before .answer-place .ensures ∙ ap answerPlace (e .ensures .0), (e .ensures .1 .0, (λ a. e .ensures .1 .1 .0 (e .ensures .0 ∙ a), λ a. e .ensures .1 .1 .1 (e .ensures .0 ∙ a)))))
+    let number = c .answer-number .ensures in
+    (number ∙ ap answerNumber (e .ensures .0), (c .before .answer-place .ensures ∙ ap answerPlace (e .ensures .0), (e .ensures .1 .0, (λ none. e .ensures .1 .1 .0 (accepted-by-0 (e .result) (sym number ∙ none)), λ none. e .ensures .1 .1 .1 (accepted-by-0 (e .result) (sym number ∙ none))))))
 
 pub ruthimpo-evaluate-spec : {M : Type 1} → statement M
 ruthimpo-evaluate-spec =

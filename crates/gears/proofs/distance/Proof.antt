@@ -5,8 +5,8 @@ use Rattle.gears.specs.Rules.{gap}
 use Rattle.gears.proofs.distance.Statement.{statement}
 use Rattle.gears.proofs.distance.Tie as tie
 
-sub-result : tie.Need-sub-result
-sub-result c = search needs
+sub-t5 : tie.Need-sub-t5
+sub-t5 c = search needs
 
 returns : tie.Need-returns
 unfolding gap
@@ -17,4 +17,4 @@ unfolding gap
 returns-2 c = omega arith
 
 pub distance-spec : {M : Type 1} → statement M
-distance-spec = tie.close (tie.spec sub-result returns returns-2)
+distance-spec = tie.close (tie.spec sub-t5 returns returns-2)

@@ -13,9 +13,12 @@ cast-result c = search needs
 mul-result : tie.Need-mul-result
 mul-result c = search needs
 
+cast-result-2 : tie.Need-cast-result-2
+cast-result-2 c = search needs
+
 returns : tie.Need-returns
 unfolding near
-returns c = simp (c .before .distance .ensures)
+returns c = simp (c .before .before .before .before .distance .ensures)
 
 pub is-near-spec : {M : Type 1} → statement M
-is-near-spec = tie.close (tie.spec distance-requires cast-result mul-result returns)
+is-near-spec = tie.close (tie.spec distance-requires cast-result mul-result cast-result-2 returns)

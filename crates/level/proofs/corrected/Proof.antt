@@ -9,12 +9,6 @@ use Rattle.level.proofs.Sides.{side-counts, too-near}
 use Rattle.level.proofs.corrected.Statement.{statement}
 use Rattle.level.proofs.corrected.Tie as tie
 
-abbrev level : tie.After-struct-known5 → ℕ
-level c = c .before .before .before .before .before .before .before .before .args .level .0
-
-abbrev background : tie.After-struct-known5 → ℕ
-background c = c .before .before .before .before .before .before .before .before .args .background .0
-
 returns : tie.Need-returns
 returns c = sym (too-near _ _ (omega arith))
 
@@ -24,11 +18,15 @@ returns-2 c = sym (too-near _ _ (omega arith))
 correction-requires : tie.Need-correction-requires
 correction-requires c κs = search needs
 
-sub-t6 : tie.Need-sub-t6
-sub-t6 c = omega (arith, c .before .correction .ensures, correction-small (level c - background c))
+sub-t5 : tie.Need-sub-t5
+sub-t5 c =
+    let a = c .before .before .before .before .before .before .before .before .before .before .args in
+    omega (arith, c .before .before .correction .ensures, correction-small (a .level .0 - a .background .0))
 
 returns-3 : tie.Need-returns-3
-returns-3 c = sym (side-counts (level c) (background c) (omega arith) ∙ ap (λ (n : ℕ). Corrected (record { 0 = level c - n })) (sym (c .before .correction .ensures)))
+returns-3 c =
+    let a = c .before .before .before .before .before .before .before .before .before .before .args in
+    sym (side-counts (a .level .0) (a .background .0) (omega arith) ∙ ap (λ (n : ℕ). Corrected (record { 0 = a .level .0 - n })) (sym (c .before .before .correction .ensures)))
 
 pub corrected-spec : {M : Type 1} → statement M
-corrected-spec = tie.close (tie.spec returns returns-2 correction-requires sub-t6 returns-3)
+corrected-spec = tie.close (tie.spec returns returns-2 correction-requires sub-t5 returns-3)

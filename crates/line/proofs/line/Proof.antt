@@ -47,20 +47,18 @@ same-length c = search needs
 
 returns : tie.Need-returns
 unfolding lineOf acceptedWord
-returns c = (
-  omega arith,
-  c .before .before .put-line .ensures .1 ∙ rw (c .before .before .before .before .before .before .before .enum-told .given .1, c .before .before .before .before .before .fields-of .ensures),
-)
+returns c =
+    let e = c .before .before .put-line .ensures in
+    ((e .0 ∙ rw (c .before .before .before .before .before .before .before .enum-told .given .1, c .before .before .before .before .before .fields-of .ensures), omega arith), e .1 .1 ∙ rw (c .before .before .before .before .before .before .before .enum-told .given .1, c .before .before .before .before .before .fields-of .ensures))
 
 same-length-2 : tie.Need-same-length-2
 same-length-2 c = search needs
 
 returns-2 : tie.Need-returns-2
 unfolding lineOf refusedWord
-returns-2 c = (
-  omega arith,
-  c .before .before .put-line2 .ensures .1 ∙ rw (c .before .before .before .before .before .before .before .before .before .answer .given .1, c .before .before .before .before .before .before .number .ensures, c .before .before .before .before .before .place .ensures),
-)
+returns-2 c =
+    let e = c .before .before .put-line2 .ensures in
+    ((e .0 ∙ rw (c .before .before .before .before .before .before .before .before .before .answer .given .1, c .before .before .before .before .before .before .number .ensures, c .before .before .before .before .before .place .ensures), omega arith), e .1 .1 ∙ rw (c .before .before .before .before .before .before .before .before .before .answer .given .1, c .before .before .before .before .before .before .number .ensures, c .before .before .before .before .before .place .ensures))
 
 pub line-spec : {M : Type 1} → statement M
 line-spec =

@@ -2,20 +2,22 @@
 -- Assumes nothing.
 use mathlib.Core.Path.{_≡_, refl, sym, ap, _∙_}
 use mathlib.Core.Bool.{Bool, false}
-use mathlib.Core.List.{List}
+use mathlib.Core.List.{List, []}
 use mathlib.Core.Logic.{⊎-elim}
 use Prim.Native.Nat.{ℕ, _+_, _-_, _≤_, _<_}
 use native.Mathlib.Omega.{arith}
-use lib.ListN.{length, set, length-set}
+use lib.ListN.{set}
 use borrow.Author.Needs.{needs}
 use Rattle.units.proofs.Lowest.{Passed, passed-start, passed-next, passed-stop, passed-end}
+use Rattle.sheet.proofs.Presence.{present-at}
 use Rattle.window.specs.declared.Four.{Four}
+use Rattle.window.specs.Windows.{emptyRun, emptyFour}
 use Rattle.gears.specs.declared.Gear.{Gear}
-use Rattle.gears.proofs.Places.{counted}
+use Rattle.gears.specs.Rules.{emptyGear}
 use Rattle.session.specs.declared.State.{State}
 use Rattle.session.specs.declared.State.the-variants.{Remains, Dropped, NoRun}
-use Rattle.session.specs.Session.{Session, sessionOf, stateOf, Entry, hasNoWindow, withRemaining, lowestNoWindow, gearsOf, windowsOf}
-use Rattle.session.proofs.Tables.{Tabling, tabling-start, tabling-remains, tabling-other, tabling-all}
+use Rattle.session.specs.Session.{Session, sessionOf, stateOf, Entry, hasNoWindow, withRemaining, lowestNoWindow}
+use Rattle.session.proofs.Tables.{Tabling, tabling-start, tabling-remains, tabling-other, table-is}
 use Rattle.session.proofs.table_of.Statement.{statement}
 use Rattle.session.proofs.table_of.Tie as tie
 
@@ -31,13 +33,11 @@ window-of e = e .window
 
 -- the table so far, before place p
 record Ready (t : Session) (gears : List Gear) (windows : List Four) (count p : ℕ) : Type 0 where
-  gears-long : length gears ≡ 16
-  windows-long : length windows ≡ 16
   few : count ≤ p
   all : p ≤ 16
   none : Passed (missing t) 16 p
-  gears-so-far : Tabling t gear-of gears count p
-  windows-so-far : Tabling t window-of windows count p
+  gears-so-far : Tabling t emptyGear gear-of gears count p
+  windows-so-far : Tabling t emptyFour window-of windows count p
 
 -- one place more
 
@@ -45,25 +45,21 @@ module _ (t : Session) (gears : List Gear) (windows : List Four) (count p : ℕ)
   ready-remains : (g : Gear) (f : Four) → p < 16 → stateOf t (p + 1) ≡ Remains g f → Ready t gears windows count p → Ready t (set gears count g) (set windows count f) (count + 1) (p + 1)
   ready-remains g f h e r =
       record {
-        gears-long = length-set gears count g ∙ r .gears-long;
-        windows-long = length-set windows count f ∙ r .windows-long;
         few = omega (arith, r .few);
         all = omega arith;
         none = passed-next _ _ _ h (ap hasNoWindow e) (r .none);
-        gears-so-far = tabling-remains t gear-of gears count p g f h (omega (arith, r .few, r .gears-long)) e (r .gears-so-far);
-        windows-so-far = tabling-remains t window-of windows count p g f h (omega (arith, r .few, r .windows-long)) e (r .windows-so-far);
+        gears-so-far = tabling-remains t emptyGear gear-of gears count p g f h e (r .gears-so-far);
+        windows-so-far = tabling-remains t emptyFour window-of windows count p g f h e (r .windows-so-far);
       }
 
-  ready-other : (x : State) → hasNoWindow x ≡ false → ((entries : List Entry) → withRemaining x entries ≡ entries) → p < 16 → stateOf t (p + 1) ≡ x → Ready t gears windows count p → Ready t gears windows count (p + 1)
-  ready-other x fine keeps h e r =
+  ready-other : (x : State) → hasNoWindow x ≡ false → withRemaining x [] ≡ [] → p < 16 → stateOf t (p + 1) ≡ x → Ready t gears windows count p → Ready t gears windows count (p + 1)
+  ready-other x fine adds h e r =
       record {
-        gears-long = r .gears-long;
-        windows-long = r .windows-long;
         few = omega (arith, r .few);
         all = omega arith;
         none = passed-next _ _ _ h (ap hasNoWindow e ∙ fine) (r .none);
-        gears-so-far = tabling-other t gear-of x keeps gears count p h e (r .gears-so-far);
-        windows-so-far = tabling-other t window-of x keeps windows count p h e (r .windows-so-far);
+        gears-so-far = tabling-other t emptyGear gear-of x adds gears count p e (r .gears-so-far);
+        windows-so-far = tabling-other t emptyFour window-of x adds windows count p e (r .windows-so-far);
       }
 
 abbrev Inv-loop : tie.InvT-loop
@@ -76,7 +72,8 @@ present-requires : tie.Need-present-requires Inv-loop μ-loop
 present-requires c κs = search needs
 
 loop-holds : tie.Need-loop-holds Inv-loop μ-loop
-loop-holds c = record { gears-long = refl; windows-long = refl; few = omega arith; all = omega arith; none = passed-start _ _; gears-so-far = tabling-start _ _ _; windows-so-far = tabling-start _ _ _ }
+unfolding emptyGear emptyFour emptyRun
+loop-holds c = record { few = omega arith; all = omega arith; none = passed-start _ _; gears-so-far = tabling-start _ _ _; windows-so-far = tabling-start _ _ _ }
 
 add-here : tie.Need-add-here Inv-loop μ-loop
 add-here c = omega arith
@@ -93,7 +90,7 @@ cast-state-of c = omega arith
 state-of-requires : tie.Need-state-of-requires Inv-loop μ-loop
 state-of-requires c κs =
     let s = c .before .before .before .before in
-    (s .pre .0, (s .pre .1, c .before .before .present .ensures (c .before .loop .p + 1) (omega arith)))
+    (s .pre .0, (s .pre .1, rw (c .before .before .present .ensures) (present-at _ (c .before .loop .p + 1) (omega arith))))
 
 enum-known-state : tie.Need-enum-known-state Inv-loop μ-loop
 enum-known-state c = search needs
@@ -121,7 +118,7 @@ unfolding lowestNoWindow
 returns c =
     let l = c .before .before .before .before .loop in
     let here = passed-stop _ _ _ (c .before .before .before .loop-test .taken) (ap hasNoWindow (sym (c .before .before .state-of .ensures) ∙ c .enum-told .given .1)) (l .inv .none) in
-    record { no-window = sym here; few = omega arith; counted = counted (l .gears) (l .count) (l .inv .gears-long) (omega arith); gears = λ e. absurd (omega arith); windows = λ e. absurd (omega arith) }
+    table-is _ _ _ _ _ here (l .inv .gears-so-far) (l .inv .windows-so-far)
 
 enum-told-2 : tie.Need-enum-told-2 Inv-loop μ-loop
 enum-told-2 c = search needs
@@ -144,24 +141,16 @@ loop-again c =
     (λ w. rw (w .3, w .4, w .5) (ready-remains _ _ _ _ _ (w .1 .given .0 .0) (w .1 .given .0 .1 .0) inside (state ∙ w .1 .given .1) (l .inv)))
     (λ v.
     ⊎-elim
-    (λ w. rw (w .2, w .3, w .4) (ready-other _ _ _ _ _ Dropped refl (λ entries. refl) inside (state ∙ w .1 .given .1) (l .inv)))
-    (λ w. rw (w .2, w .3, w .4) (ready-other _ _ _ _ _ NoRun refl (λ entries. refl) inside (state ∙ w .1 .given .1) (l .inv)))
+    (λ w. rw (w .2, w .3, w .4) (ready-other _ _ _ _ _ Dropped refl refl inside (state ∙ w .1 .given .1) (l .inv)))
+    (λ w. rw (w .2, w .3, w .4) (ready-other _ _ _ _ _ NoRun refl refl inside (state ∙ w .1 .given .1) (l .inv)))
     v)
     (c .match .came)
 
 returns-2 : tie.Need-returns-2 Inv-loop μ-loop
-unfolding lowestNoWindow gearsOf windowsOf
+unfolding lowestNoWindow
 returns-2 c =
     let l = c .before .loop in
-    let r = l .inv in
-    let end = passed-end _ _ _ (c .loop-test .left) (r .none) in
-    record {
-      no-window = sym end;
-      few = omega (arith, r .few, r .all);
-      counted = counted (l .gears) (l .count) (r .gears-long) (omega (arith, r .few, r .all));
-      gears = λ e. tabling-all _ gear-of (l .gears) (l .count) (l .p) (c .loop-test .left) (r .gears-so-far);
-      windows = λ e. tabling-all _ window-of (l .windows) (l .count) (l .p) (c .loop-test .left) (r .windows-so-far);
-    }
+    table-is _ _ _ _ _ (passed-end _ _ _ (c .loop-test .left) (l .inv .none)) (l .inv .gears-so-far) (l .inv .windows-so-far)
 
 pub table-of-spec : {M : Type 1} → statement M
 table-of-spec =

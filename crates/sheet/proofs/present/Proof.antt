@@ -13,7 +13,7 @@ use Rattle.record.specs.Records.{records, recordAt, byte}
 use Rattle.record.proofs.Shown.{record-long}
 use Rattle.record.proofs.Layouts.{RunRanges, run-ranges}
 use Rattle.sheet.specs.Sheet.{hasByte, accelerates, hasAcceleration}
-use Rattle.sheet.proofs.Presence.{Marked, marked-start, marked-run, marked-other, marked-end}
+use Rattle.sheet.proofs.Presence.{Marked, marked-start, marked-run, marked-other, marked-end, present-is}
 use Rattle.sheet.proofs.present.Statement.{statement}
 use Rattle.sheet.proofs.present.Tie as tie
 
@@ -94,7 +94,7 @@ unfolding hasAcceleration records
 returns c =
     let s = c .before .before .before .args .sheet .now in
     let l = c .before .loop in
-    λ g h. marked-end s (records s - 1) (l .seen) (l .i) (c .loop-test .left) (l .inv .2) g h ∙ ap (λ (n : ℕ). some (λ k. accelerates s k && hasByte s 1 g k) n 1) (fewer s)
+    present-is s (l .seen) (l .inv .0) λ g h. marked-end s (records s - 1) (l .seen) (l .i) (c .loop-test .left) (l .inv .2) g h ∙ ap (λ (n : ℕ). some (λ k. accelerates s k && hasByte s 1 g k) n 1) (fewer s)
 
 pub present-spec : {M : Type 1} → statement M
 present-spec =

@@ -1,16 +1,16 @@
--- `text::put_word` meets its contract: after n turns the first n bytes are the word's. Assumes nothing.
+-- `text::put_word` meets its contract: what is stored after n turns, with the rest of the word to come, is the whole. Assumes nothing.
 use mathlib.Core.Path.{_≡_, refl, _∙_}
 use Prim.Native.Nat.{_≤_, _-_}
-use native.Mathlib.Numerals.{add-one}
 use native.Mathlib.Omega.{arith}
-use lib.ListN.{length, take, length-set}
-use lib.Seq.{take-suc, take-suc-set, take-length}
+use lib.ListN.{length, drop, length-set}
+use lib.Seq.{sets}
 use borrow.Author.Needs.{needs}
+use Rattle.text.proofs.Stores.{word-more, word-done}
 use Rattle.text.proofs.put_word.Statement.{statement}
 use Rattle.text.proofs.put_word.Tie as tie
 
 abbrev Inv-loop : tie.InvT-loop
-Inv-loop word out₀ n₀ out n = (n ≤ length word) × (length out ≡ length out₀) × (take n out ≡ take n word)
+Inv-loop word out₀ n₀ out n = (n ≤ length word) × (length out ≡ length out₀) × (sets out n (drop n word) ≡ sets out₀ 0 word)
 
 abbrev μ-loop : tie.MeasureT-loop
 μ-loop word out₀ n₀ out n = length word - n
@@ -34,7 +34,7 @@ loop-again : tie.Need-loop-again Inv-loop μ-loop
 loop-again c =
     let word = c .before .before .before .args .word .now in
     let l = c .before .before .loop in
-    (omega arith, simp length-set (omega arith), rw (add-one (l .n), take-suc-set (l .out) (l .n) _ (omega arith), take-suc word (l .n) 0 (omega arith), l .inv .2))
+    (omega arith, simp length-set (omega arith), word-more (l .out) word (l .n) (omega arith) ∙ l .inv .2)
 
 same-length : tie.Need-same-length Inv-loop μ-loop
 same-length c = search needs
@@ -42,7 +42,7 @@ same-length c = search needs
 returns : tie.Need-returns Inv-loop μ-loop
 returns c =
     let all : c .before .loop .n ≡ length (c .before .before .args .word .now) = omega arith in
-    (all, c .before .loop .inv .2 ∙ rw all (take-length (c .before .before .args .word .now)))
+    (all, word-done (c .before .loop .out) (c .before .before .args .word .now) (c .before .loop .n) (omega arith) ∙ c .before .loop .inv .2)
 
 pub put-word-spec : {M : Type 1} → statement M
 put-word-spec =

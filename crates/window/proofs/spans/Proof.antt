@@ -25,6 +25,9 @@ least-requires-3 c κs = search needs
 cast-limit : tie.Need-cast-limit
 cast-limit c = search needs
 
+cast-limit-2 : tie.Need-cast-limit-2
+cast-limit-2 c = search needs
+
 add-limit : tie.Need-add-limit
 add-limit c = search needs
 
@@ -33,7 +36,9 @@ cast-result c = search needs
 
 returns : tie.Need-returns
 unfolding spanned
-returns c = simp (c .least3 .ensures, c .before .least2 .ensures, c .before .before .least .ensures, c .before .before .before .most3 .ensures, c .before .before .before .before .most2 .ensures, c .before .before .before .before .before .most .ensures)
+returns c =
+    let l = c .before .before .before in
+    simp (l .least3 .ensures, l .before .least2 .ensures, l .before .before .least .ensures, l .before .before .before .most3 .ensures, l .before .before .before .before .most2 .ensures, l .before .before .before .before .before .most .ensures)
 
 pub spans-spec : {M : Type 1} → statement M
 spans-spec =
@@ -46,6 +51,7 @@ spans-spec =
     least-requires-2
     least-requires-3
     cast-limit
+    cast-limit-2
     add-limit
     cast-result
     returns)

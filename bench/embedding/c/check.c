@@ -1,0 +1,160 @@
+/* Checks what ruthimpo.h says, on the worked sheet and its line, the two files that its arguments name. */
+#define _POSIX_C_SOURCE 200809L
+#include "ruthimpo.h"
+
+#include <pthread.h>
+#include <stdio.h>
+#include <string.h>
+
+enum { ROOM = 400, POISON = 0xA5, THREADS = 4, CALLS = 20000, ALIGNMENTS = 16 };
+
+static uint8_t worked[ROOM * 2], line[ROOM];
+static size_t worked_bytes, line_bytes;
+static unsigned checks, differing;
+
+static void check(int holds, const char *words, size_t at) {
+    checks++;
+    if (!holds) {
+        differing++;
+        printf("DIFFERS: %s, %zu\n", words, at);
+    }
+}
+
+static int is_kept(const uint8_t *bytes, size_t from) {
+    for (size_t at = from; at < ROOM; at++) {
+        if (bytes[at] != POISON) {
+            return 0;
+        }
+    }
+    return 1;
+}
+
+/* Changes of a 16-bit number of the worked sheet, each with its refusal. */
+static const struct {
+    enum ruthimpo_refusal refusal;
+    size_t place, at;
+    unsigned number;
+} changes[] = {
+    {RUTHIMPO_ACCEPTED, 0, 14, 72},                       /* the limit that it has */
+    {RUTHIMPO_NO_VEHICLE, 0, 0, 0x0109},                  /* the first record closes */
+    {RUTHIMPO_NO_CLOSING, 21, 32 * 21 + 2, 19},           /* 19 runs for 20 */
+    {RUTHIMPO_BROKEN_RECORD, 7, 32 * 7, 0x1102},          /* gear 17 */
+    {RUTHIMPO_PMR_OUT_OF_RANGE, 0, 4, 10},                /* 1.0 kW */
+    {RUTHIMPO_NO_WINDOW, 2, 32 * 1 + 2, 0x0101},          /* an acceleration run of gear 2 is struck */
+    {RUTHIMPO_NOT_FALLING, 3, 32 * 9 + 18, 1500},         /* gear 4 reaches 150.0 km/h */
+    {RUTHIMPO_NO_RULE, 0, 10, 3999},                      /* every gear turns above S */
+    {RUTHIMPO_NO_CONSTANT_SPEED, 3, 32 * 13 + 2, 0x0101}, /* a constant-speed run of gear 3 is struck */
+};
+
+static void check_refusals(void) {
+    for (size_t n = 0; n < sizeof changes / sizeof *changes; n++) {
+        uint8_t sheet[sizeof worked], result[ROOM];
+        size_t place = POISON;
+        memcpy(sheet, worked, sizeof sheet);
+        memset(result, POISON, sizeof result);
+        sheet[changes[n].at] = changes[n].number & 0xFF;
+        sheet[changes[n].at + 1] = changes[n].number >> 8;
+        uint32_t refusal = ruthimpo_evaluate(sheet, worked_bytes, result, sizeof result, &place);
+        check(refusal == changes[n].refusal && place == changes[n].place, "refusal and place of change", n);
+        check(is_kept(result, refusal == RUTHIMPO_ACCEPTED ? RUTHIMPO_RESULT_BYTES : 0), "result after change", n);
+    }
+}
+
+static void check_null(void) {
+    uint8_t result[ROOM], out[ROOM];
+    size_t place = POISON;
+    memset(result, POISON, sizeof result);
+    memset(out, POISON, sizeof out);
+    check(ruthimpo_evaluate(NULL, 0, result, sizeof result, &place) == RUTHIMPO_WRONG_SIZE && place == 0, "NULL sheet", 0);
+    check(is_kept(result, 0), "result of a NULL sheet", 0);
+    place = POISON;
+    check(ruthimpo_evaluate(worked, worked_bytes, NULL, 0, &place) == RUTHIMPO_SHORT_BUFFER && place == 0, "NULL result", 0);
+    check(ruthimpo_evaluate(NULL, 0, NULL, 0, &place) == RUTHIMPO_SHORT_BUFFER, "NULL sheet and result", 0);
+    check(ruthimpo_line(NULL, 0, out, sizeof out) == 12 && memcmp(out, "REFUSED 2 0\n", 12) == 0, "line of a NULL sheet", 0);
+    check(ruthimpo_line(worked, worked_bytes, NULL, 0) == 0, "line into NULL", 0);
+}
+
+static void check_line_buffers(void) {
+    for (size_t size = 0; size <= ROOM; size++) {
+        uint8_t out[ROOM];
+        memset(out, POISON, sizeof out);
+        size_t length = ruthimpo_line(worked, worked_bytes, out, size);
+        check(length == (size < RUTHIMPO_LINE_BYTES ? 0 : line_bytes), "length of a line into bytes", size);
+        check(memcmp(out, line, length) == 0 && is_kept(out, length), "bytes of a line into bytes", size);
+    }
+}
+
+static void check_alignments(void) {
+    for (size_t offset = 0; offset < ALIGNMENTS; offset++) {
+        uint8_t sheet[sizeof worked + ALIGNMENTS], result[ROOM], expected[ROOM], out[ROOM + ALIGNMENTS];
+        size_t place;
+        memcpy(sheet + offset, worked, worked_bytes);
+        ruthimpo_evaluate(worked, worked_bytes, expected, RUTHIMPO_RESULT_BYTES, &place);
+        uint32_t refusal = ruthimpo_evaluate(sheet + offset, worked_bytes, result + offset, RUTHIMPO_RESULT_BYTES, &place);
+        check(refusal == 0 && memcmp(result + offset, expected, RUTHIMPO_RESULT_BYTES) == 0, "result at offset", offset);
+        check(ruthimpo_line(sheet + offset, worked_bytes, out + offset, ROOM) == line_bytes, "length at offset", offset);
+        check(memcmp(out + offset, line, line_bytes) == 0, "line at offset", offset);
+    }
+}
+
+/* What a thread calls for: so many bytes of the shared sheet, and the line that they have. */
+struct task {
+    size_t bytes, length;
+    const uint8_t *line;
+};
+
+/* Answers NULL if a call gives another line. */
+static void *lines_of_a_thread(void *argument) {
+    const struct task *task = argument;
+    for (int call = 0; call < CALLS; call++) {
+        uint8_t out[RUTHIMPO_LINE_BYTES];
+        size_t length = ruthimpo_line(worked, task->bytes, out, sizeof out);
+        if (length != task->length || memcmp(out, task->line, length) != 0) {
+            return NULL;
+        }
+    }
+    return argument;
+}
+
+/* Threads with little stack, and unlike tasks in turn. */
+static void check_threads(void) {
+    struct task tasks[] = {{worked_bytes, line_bytes, line}, {0, 12, (const uint8_t *)"REFUSED 2 0\n"}};
+    pthread_t threads[THREADS];
+    pthread_attr_t small;
+    pthread_attr_init(&small);
+    check(pthread_attr_setstacksize(&small, 16384) == 0, "a stack of 16 KB", 0);
+    for (size_t n = 0; n < THREADS; n++) {
+        check(pthread_create(&threads[n], &small, lines_of_a_thread, &tasks[n % 2]) == 0, "start of thread", n);
+    }
+    for (size_t n = 0; n < THREADS; n++) {
+        void *task = NULL;
+        check(pthread_join(threads[n], &task) == 0 && task != NULL, "lines of thread", n);
+    }
+}
+
+static size_t read_file(const char *name, uint8_t *bytes, size_t room) {
+    FILE *file = fopen(name, "rb");
+    if (file == NULL) {
+        return 0;
+    }
+    size_t count = fread(bytes, 1, room, file);
+    fclose(file);
+    return count;
+}
+
+int main(int count, char **names) {
+    if (count != 3) {
+        fprintf(stderr, "usage: check SHEET LINE\n");
+        return 2;
+    }
+    worked_bytes = read_file(names[1], worked, sizeof worked);
+    line_bytes = read_file(names[2], line, sizeof line);
+    check(worked_bytes == 32 * 22, "bytes of the worked sheet", worked_bytes);
+    check_refusals();
+    check_null();
+    check_line_buffers();
+    check_alignments();
+    check_threads();
+    printf("%u of %u checks of ruthimpo.h hold\n", checks - differing, checks);
+    return differing == 0 ? 0 : 1;
+}

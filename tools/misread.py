@@ -1,0 +1,146 @@
+"""What other readings of document 01 are made of. A reading is its words with the names of `reckon` that it replaces."""
+
+import inspect
+import struct
+from contextlib import contextmanager
+from fractions import Fraction
+from math import floor
+
+import reckon
+
+PAPER = dict(vars(reckon))
+
+
+@contextmanager
+def reading(changes):
+    """The reckoner with some of its names replaced."""
+    replaced = {name: vars(reckon)[name] for name in changes}
+    vars(reckon).update(changes)
+    try:
+        yield
+    finally:
+        vars(reckon).update(replaced)
+
+
+def edited(name, *parts):
+    """A function of the reckoner with parts of its text replaced: old, new, old, new and so on."""
+    text = inspect.getsource(PAPER[name])
+    for old, new in zip(parts[::2], parts[1::2]):
+        if text.count(old) != 1:
+            raise ValueError(f"{name} has {text.count(old)} times {old}")
+        text = text.replace(old, new)
+    given = {}
+    exec(text, vars(reckon), given)
+    return {name: given[name]}
+
+
+def by_edit(*rows):
+    """Readings from rows of words, a function and what `edited` takes."""
+    return [(words, edited(name, *parts)) for words, name, *parts in rows]
+
+
+def simple(*rows):
+    """Readings that replace one function: words, name, replacement."""
+    return [(words, {name: replacement}) for words, name, replacement in rows]
+
+
+def before(name, change):
+    """A function of the reckoner whose arguments are changed first."""
+    return {name: lambda *arguments: PAPER[name](*change(*arguments))}
+
+
+def for_kind(kind, changes):
+    """A reading of the runs of one kind only."""
+    def find_window(runs, vehicle, of, gear):
+        if of != kind:
+            return PAPER["find_window"](runs, vehicle, of, gear)
+        with reading({"find_window": PAPER["find_window"], **changes}):
+            return reckon.find_window(runs, vehicle, of, gear)
+    return {"find_window": find_window}
+
+
+def for_rule(rule, changes):
+    """A reading of the sheets that one gear rule decides."""
+    def evaluate(sheet):
+        answer = PAPER["evaluate"](sheet)
+        if answer[:2] != ("OK", rule):
+            return answer
+        with reading(changes):
+            return PAPER["evaluate"](sheet)
+    return {"evaluate": evaluate}
+
+
+def answers(change):
+    """An evaluation whose answer is changed."""
+    return {"evaluate": lambda sheet: change(*PAPER["evaluate"](sheet))}
+
+
+# Roundings.
+
+rounded = PAPER["rounded"]
+
+
+def half_down(value):
+    return -rounded(-value)
+
+
+def half_to_even(value):
+    return round(Fraction(value))
+
+
+def half_from_zero(value):
+    return rounded(value) if value >= 0 else -rounded(-value)
+
+
+def by_a_tenth_first(value):
+    """Rounded to a tenth of the unit, and then to the unit."""
+    return rounded(Fraction(rounded(10 * value), 10))
+
+
+def not_at_all(value):
+    return Fraction(value)
+
+
+def rounding_in(name, rounding):
+    """The named function with another rounding inside."""
+    def changed(*arguments):
+        with reading({"rounded": rounding}):
+            return PAPER[name](*arguments)
+    return {name: changed}
+
+
+# Floats in the place of fractions.
+
+class Single:
+    """A 32-bit float: each result of an operation is rounded to one."""
+
+    def __init__(self, value):
+        self.value = struct.unpack("f", struct.pack("f", value))[0]
+
+    def __add__(self, other):
+        return Single(self.value + other.value)
+
+    def __sub__(self, other):
+        return Single(self.value - other.value)
+
+    def __mul__(self, other):
+        return Single(self.value * other.value)
+
+    def __truediv__(self, other):
+        return Single(self.value / other.value)
+
+    def __abs__(self):
+        return Single(abs(self.value))
+
+    def __le__(self, other):
+        return self.value <= other.value
+
+    def __float__(self):
+        return self.value
+
+
+def by_floats(name, formula):
+    """A function by a formula in 32-bit and in 64-bit floats, a half going up; the formula gets the kind of float first."""
+    def function(kind):
+        return lambda *arguments: floor(float(formula(kind, *arguments) + kind(0.5)))
+    return (("32-bit", {name: function(Single)}), ("64-bit", {name: function(float)}))

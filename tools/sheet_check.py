@@ -1,0 +1,228 @@
+#!/usr/bin/env python3
+"""Checks sheet.py against the reckoner, which reads the layout by itself.
+
+    python3 tools/sheet_check.py [N [SEED]]     the corpus, and N damaged and random sheets (5,000 unless said)
+
+Every sheet must come back from its table byte for byte. `show` must find a fault of the sheet if and only if the reckoner
+refuses it with 2, 3 or 4; of the other sheets, its lowest record with a fault must be the place of refusal 5.
+"""
+
+import os
+import subprocess
+import sys
+
+import sheets
+from corpus import all_sheets
+from damage import damaged_sheets
+from make import Random
+from reckon import ABSENT, ACCELERATION_RUN, CONSTANT_RUN, OVERLOAD, RECORD_BYTES, Refused, refuse_form
+from sheet import FIELDS, Unreadable, faults_of, level_bytes, level_cell, sheet_faults, sheet_of, shown_sheet, table_of
+
+TOOL = os.path.join(os.path.dirname(os.path.abspath(__file__)), "sheet.py")
+LONGEST_RANDOM = 200  # bytes
+
+# A table as a crew may write it: columns in an order of their own, blank rows, and a blank level of an absent reading.
+HEADER = ("kind,gear,left reading,left level [dB(A)],right reading,right level [dB(A)],struck,speed at the start line [km/h],"
+          "speed at BB' [km/h],highest engine speed [per minute],category,start line,power [kW],mass in running order [kg],"
+          "length [cm],rated engine speed [per minute],background before [dB(A)],limit [dB(A)],background after [dB(A)],number of runs")
+BY_HAND = f"""{HEADER}
+vehicle,,,,,,,,,,N1,PP',86.5,2049,450,5500,40.3,72,,
+,,,,,,,,,,,,,,,,,,,
+acceleration run,3,level,72.25,overload,139.9,no,44.2,54.5,4000
+constant-speed run,4,absent,,level,65.1875,yes,50,50.0,0
+
+closing,,,,,,,,,,,,,,,,,,38,2
+"""
+FROM_HAND = sheets.sheet(
+    sheets.vehicle(2, 1, 865, 2049, 450, 5500, 403, 72),
+    [sheets.run(ACCELERATION_RUN, 3, sheets.decibels("72.25"), sheets.decibels("139.9"), 442, 545, 4000, right_kind=OVERLOAD),
+     sheets.run(CONSTANT_RUN, 4, bytes(4), sheets.decibels("65.1875"), 500, 500, 0, struck=1, left_kind=ABSENT)], 380)
+
+# Floats by their bits, and the cell of each: the shortest decimal, or the bits where no decimal names the float.
+LEVEL_CELLS = ((0x42908000, "72.25"), (0x42940000, "74.0"), (0x430BE666, "139.9"), (0x428C4000, "70.125"), (0xC2910000, "-72.5"),
+               (0x42908001, "72.25001"), (0x00000000, ""), (0x80000000, "0x80000000"), (0x7FC00000, "0x7FC00000"),
+               (0xFF800000, "0xFF800000"), (0x00000001, "0x00000001"))
+
+# Rows under that header, or headers, that cannot be read, and where the message must say the fault is.
+VEHICLE_ROW, _, RUN_ROW, ABSENT_ROW, _, CLOSING_ROW = BY_HAND.splitlines()[1:]
+UNREADABLE = (
+    (f"{HEADER}\n{RUN_ROW.replace('44.2', '44.25')}", "row 2, column 'speed at the start line [km/h]': '44.25' "),
+    (f"{HEADER}\n{RUN_ROW.replace('44.2', '6553.6')}", "row 2, column 'speed at the start line [km/h]': '6553.6' "),
+    (f"{HEADER}\n\n{RUN_ROW.replace('54.5', 'fast')}", "row 3, column \"speed at BB' [km/h]\": 'fast' "),
+    (f"{HEADER}\n{RUN_ROW.replace('54.5', '-54.5')}", "row 2, column \"speed at BB' [km/h]\": '-54.5' "),
+    (f"{HEADER}\n{RUN_ROW.replace('72.25', '72;25')}", "row 2, column 'left level [dB(A)]': '72;25' "),
+    (f"{HEADER}\n{RUN_ROW.replace('72.25', '1e39')}", "row 2, column 'left level [dB(A)]': '1e39' "),
+    (f"{HEADER}\n{RUN_ROW.replace('72.25', '0x42')}", "row 2, column 'left level [dB(A)]': '0x42' "),
+    (f"{HEADER}\n{RUN_ROW.replace('run,3', 'run,256')}", "row 2, column 'gear': '256' "),
+    (f"{HEADER}\n{RUN_ROW.replace('overload', 'over')}", "row 2, column 'right reading': 'over' "),
+    (f"{HEADER}\n{RUN_ROW.replace('acceleration', 'slow')}", "row 2, column 'kind': 'slow run' "),
+    (f"{HEADER}\n{VEHICLE_ROW.replace('vehicle,', 'vehicle,3')}", "row 2, column 'gear': '3' "),
+    (f"{HEADER}\n{VEHICLE_ROW},1", "row 2: "),
+    (f"{HEADER},colour\n", "row 1: 'colour' "),
+    (f"{HEADER},kind\n", "row 1: 'kind' "),
+    (f"{HEADER},other bytes\n{VEHICLE_ROW},4=01", "row 2, column 'other bytes': '4=01' "),
+    (f"{HEADER},other bytes\n{VEHICLE_ROW},31=0102", "row 2, column 'other bytes': '31=0102' "),
+    ("kind,other bytes\n7,5=01 5=01", "row 2, column 'other bytes': '5=01 5=01' "),
+    ("kind,other bytes\n7,5:01", "row 2, column 'other bytes': '5:01' "),
+    ("kind,other bytes\nleft over,1=01", "row 2, column 'other bytes': "),
+    (f"kind,other bytes\nleft over,0={'00' * 32}", "row 2, column 'other bytes': "),
+    ("kind,other bytes\nleft over,0=00\n7,", "row 2, column 'kind': "),
+    ("kind\nvehicle", "row 2, column 'category' is blank"),
+    (f"{HEADER.removesuffix(',number of runs')}\n{CLOSING_ROW.removesuffix(',2')}", "row 2, column 'number of runs' is blank"),
+    ("", "no table: "),
+)
+
+
+def blanked(row):
+    """A row with each of its cells blank in turn, but not a level's, and what must be said of it."""
+    cells = row.split(",")
+    for at, (column, cell) in enumerate(zip(HEADER.split(","), cells)):
+        if cell and "level" not in column:
+            yield f"{HEADER}\n{','.join([*cells[:at], '', *cells[at + 1:]])}", f"row 2, column {column!r} is blank"
+
+
+BLANK = [case for row in (VEHICLE_ROW, RUN_ROW, ABSENT_ROW, CLOSING_ROW) for case in blanked(row)]
+
+
+def refusal_of_form(sheet):
+    """The reckoner's refusal with 2 to 5 as number and place; None if it has another answer."""
+    try:
+        refuse_form(sheet)
+        return None
+    except Refused as refusal:
+        return refusal.number, refusal.place
+
+
+def shown_refusal(sheet):
+    """What the faults that are shown say of it: (5, lowest record), None, or any of 2 to 4 as an empty pair."""
+    if list(sheet_faults(sheet)):
+        return ()
+    return next(((5, at) for at, faults in enumerate(faults_of(sheet)) if faults), None)
+
+
+def agrees(sheet):
+    """Whether the faults agree with the reckoner's refusal, and the sheet comes back from its table."""
+    refusal = refusal_of_form(sheet)
+    expected = () if refusal and refusal[0] < 5 else refusal
+    shown = list(shown_sheet(sheet))
+    lowest = next((line for line in shown if "FAULT" in line), None)
+    return (shown_refusal(sheet) == expected and (lowest is None) == (refusal is None) and sheet_of(table_of(sheet)) == sheet)
+
+
+def report(words, wrong, count):
+    """Prints how many of a kind are right, and the first that is not; returns whether all are."""
+    print(f"{count - len(wrong)} of {count} {words}" + (f"; the first that is not: {wrong[0]!r}" if wrong else ""), flush=True)
+    return not wrong
+
+
+def check_sheets(words, found):
+    found = list(found)
+    return report(words, [sheet for sheet in found if not agrees(sheet)], len(found))
+
+
+def random_bytes(random, count):
+    for _ in range(count):
+        yield bytes(random.below(256) for _ in range(random.below(LONGEST_RANDOM)))
+
+
+def changed_bytes():
+    """A sheet with each byte of each kind of record at each value."""
+    for at in range(len(FROM_HAND)):
+        for value in range(256):
+            yield at, FROM_HAND[:at] + bytes([value]) + FROM_HAND[at + 1:]
+
+
+def may_be_named(fault, place):
+    """Whether a change of the byte at a place of a record may cause a fault: by its field, its reading, its speeds."""
+    if fault.name == "unnamed bytes":
+        return place in map(int, (group.split("=")[0] for group in fault.value.split()))
+    field = next(field for fields in FIELDS.values() for field in fields if field.name == fault.name)
+    places = {"left level": (3,), "right level": (4,), "speed at BB'": (16, 17)}.get(fault.name, ())
+    return place in (*range(field.at, field.at + field.size), *places)
+
+
+def check_names():
+    """A fault after the change of one byte must name the field that the byte belongs to."""
+    wrong, count = [], 0
+    for at, sheet in changed_bytes():
+        if at % RECORD_BYTES:
+            found = [(n, fault) for n, faults in enumerate(faults_of(sheet)) for fault in faults]
+            count += len(found)
+            wrong += [(at, fault) for n, fault in found if n != at // RECORD_BYTES or not may_be_named(fault, at % RECORD_BYTES)]
+    return report("faults after the change of one byte name its field", wrong, count)
+
+
+def patterns(random, count):
+    """Floats at the ends of every exponent, and as it comes."""
+    edges = [sign << 31 | exponent << 23 | fraction for sign in (0, 1) for exponent in range(256)
+             for fraction in (0, 1, 0x3FFFFF, 0x400000, 0x7FFFFF)]
+    return [bits.to_bytes(4, "little") for bits in edges + [random.below(2 ** 32) for _ in range(count)]]
+
+
+def level_returns(four):
+    cell = level_cell(four)
+    return (level_bytes(cell) if cell else bytes(4)) == four
+
+
+def check_levels(random, count):
+    found = patterns(random, count)
+    cells = [(f"{bits:08X}", level_cell(bits.to_bytes(4, "little")), cell) for bits, cell in LEVEL_CELLS]
+    known = report("floats have the cells that they should", [pair for pair in cells if pair[1] != pair[2]], len(cells))
+    return report("floats come back from their cells", [four for four in found if not level_returns(four)], len(found)) and known
+
+
+def told(table):
+    """What is said of a table that cannot be read; blank if it is read."""
+    try:
+        sheet_of(table)
+        return ""
+    except Unreadable as why:
+        return str(why)
+
+
+def check_by_hand():
+    hand = report("table written by hand gives its sheet", [table for table in (BY_HAND,) if sheet_of(table) != FROM_HAND], 1)
+    unreadable = (*UNREADABLE, *BLANK)
+    wrong = [(table, told(table)) for table, words in unreadable if not told(table).startswith(words)]
+    return report("tables that cannot be read are told with row and column", wrong, len(unreadable)) and hand
+
+
+def tool(arguments, content):
+    """Runs the tool on standard input: its output and its status."""
+    found = subprocess.run([sys.executable, TOOL, *arguments, "-"], input=content, capture_output=True)
+    return found.stdout, found.returncode
+
+
+def check_commands():
+    """The commands themselves: a damaged sheet to a table and back, and nothing written for an unreadable table."""
+    damaged = FROM_HAND[:40] + b"\xFF\xC0\x7F" + FROM_HAND[43:] + b"left over"
+    table, status = tool(["show", "--csv"], damaged)
+    answers = (
+        ("show", tool(["show"], damaged), ("".join(line + "\n" for line in shown_sheet(damaged)).encode(), 0)),
+        ("show --csv", (table, status), (table_of(damaged).encode(), 0)),
+        ("make", tool(["make"], table), (damaged, 0)),
+        ("make, from a spreadsheet", tool(["make"], b"\xEF\xBB\xBF" + table.replace(b"\n", b"\r\n")), (damaged, 0)),
+        ("make, unreadable", tool(["make"], UNREADABLE[0][0].encode()), (b"", 1)),
+        ("make, a blank cell", tool(["make"], BY_HAND.replace("54.5,4000", "54.5,").encode()), (b"", 1)),
+        ("make, no text", tool(["make"], bytes(range(256))), (b"", 1)),
+    )
+    wrong = [name for name, found, expected in answers if found != expected]
+    return report("commands answer as they should", wrong, len(answers))
+
+
+def main(count=5000, seed=1):
+    random, stored = Random(seed), all_sheets()
+    return all([
+        check_sheets("sheets of the corpus agree", stored),
+        check_sheets("damaged sheets agree", damaged_sheets(random, stored, count)),
+        check_sheets("random byte strings agree", random_bytes(random, count // 10)),
+        check_sheets("sheets with one byte changed agree", (sheet for _, sheet in changed_bytes())),
+        check_names(),
+        check_levels(random, count),
+        check_by_hand(),
+        check_commands(),
+    ])
+
+
+if __name__ == "__main__":
+    sys.exit(0 if main(*[int(argument) for argument in sys.argv[1:]]) else 1)
