@@ -31,7 +31,7 @@ from pathlib import Path
 ROOT = Path(__file__).resolve().parent.parent
 TRACE = "docs/TRACE.md"
 
-# Each section with its title and the number of its sentences: 0 is the client's demands, a number behind W is a wish of
+# Each section with its title and the number of its sentences: 0 is the client's demands, a number after W is a wish of
 # document 02, the others are document 01.
 SECTIONS = {
     "0": ("The demands", 7), "1": ("Scope", 3), "2": ("The sheet", 30), "3": ("Refusals and what remains", 13),
@@ -89,8 +89,8 @@ def paper_sections(text):
 
 
 def print_paper(path):
-    """Prints the numbered sentences of document 01, or of the wishes of document 02 that have a section here; returns
-    whether there are as many as SECTIONS says."""
+    """Prints the numbered sentences of document 01, or of the built wishes of document 02; returns whether there are as
+    many as SECTIONS says."""
     found = paper_sections(Path(path).read_text(encoding="utf-8"))
     of_wishes = any(section.startswith("W") for section in found)
     expected = {section: count for section, (_, count) in SECTIONS.items()
