@@ -16,7 +16,7 @@ use Rattle.window.proofs.HeldExtremes.{extremes, first-extremes, next-e
 run : ℕ → ℕ → ℕ → ValidRun
 run n l r = record { left = record { 0 = l }; right = record { 0 = r }; start = 0; end = 0; engine = 0; number = n }
 
--- runs 1, 2, .. with the same level on both fours
+-- runs 1, 2, .. with the same level on both sides
 data Example : Type 0 where
   -- the first window starts at this run, and the condition's level is this
   starts : List ValidRun → ℕ → ℕ → Example
@@ -40,7 +40,7 @@ examples =
     starts (run 1 700 700 ∷ run 2 721 721 ∷ run 3 710 710 ∷ run 4 710 710 ∷ run 5 710 710 ∷ []) 2 713
     -- 70.0 with 72.0 is within
     ∷ starts (run 1 700 700 ∷ run 2 720 720 ∷ run 3 710 710 ∷ run 4 710 710 ∷ []) 1 710
-    -- each side by itself: the sums of the fours are alike, the fours are not
+    -- each side by itself: the sums of the sides are alike, the sides are not
     ∷ none (run 1 700 721 ∷ run 2 721 700 ∷ run 3 710 711 ∷ run 4 711 710 ∷ [])
     -- a valid run outside the span parts its neighbours
     ∷ none (run 1 700 700 ∷ run 2 700 700 ∷ run 3 740 740 ∷ run 4 700 700 ∷ run 5 700 700 ∷ [])

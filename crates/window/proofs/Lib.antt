@@ -1,6 +1,6 @@
 pub mod Searches
 pub mod Parts
-pub mod HeldExtremes
+mod HeldExtremes
 mod Examples
 mod Walking
 pub mod Rising
