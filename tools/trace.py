@@ -1,8 +1,8 @@
 #!/usr/bin/env python3
-"""Checks docs/TRACE.md against the tree, and tells which sentence of document 01 a number means.
+"""Checks docs/TRACE.md against the tree, and tells which sentence of document 01 or 02 a number means.
 
     python3 tools/trace.py --check         prints the counts, or a line for each fault; fails if there is one
-    python3 tools/trace.py --paper FILE    prints the sentences of document 01 with their numbers; fails on other counts
+    python3 tools/trace.py --paper FILE    prints the sentences of the paper with their numbers; fails on other counts
 
 Every name in a row must exist, every sentence and every must-fail edit must have a row, and the rows must stand in the
 paper's order. A cell is a dash, or references with a comma or a semicolon between them:
@@ -31,12 +31,16 @@ from pathlib import Path
 ROOT = Path(__file__).resolve().parent.parent
 TRACE = "docs/TRACE.md"
 
-# Each section with the number of its sentences: 0 is the client's demands, the others are document 01.
-SECTIONS = (("The demands", 7), ("Scope", 3), ("The sheet", 30), ("Refusals and what remains", 13),
-            ("From levels to windows", 17), ("Gears", 15), ("L_urban", 26), ("Driven examples", 15),
-            ("Whole sheet and the program", 9), ("Where the spreadsheet tempts", 4), ("The shape of each place", 14),
-            ("Note from the buyer", 7))
-SENTENCES = [(section, at) for section, (_, count) in enumerate(SECTIONS) for at in range(1, count + 1)]
+# Each section with its title and the number of its sentences: 0 is the client's demands, a number after W is a wish of
+# document 02, the others are document 01.
+SECTIONS = {
+    "0": ("The demands", 7), "1": ("Scope", 3), "2": ("The sheet", 30), "3": ("Refusals and what remains", 13),
+    "4": ("From levels to windows", 17), "5": ("Gears", 15), "6": ("L_urban", 26), "7": ("Driven examples", 15),
+    "8": ("Whole sheet and the program", 9), "9": ("Where the spreadsheet tempts", 4),
+    "10": ("The shape of each place", 14), "11": ("Note from the buyer", 7),
+    "W3": ("The four-run span in one walk", 3),
+}
+SENTENCES = [(section, at) for section, (_, count) in SECTIONS.items() for at in range(1, count + 1)]
 
 COLUMNS = ("no.", "sentence", "definition", "function", "law or promise", "must-fail", "test")
 ITEM = r'(?:`[^`]+`|D "[^"]+"|\*[^*]+\*)'
@@ -62,37 +66,42 @@ FORMS = {
 }
 
 
-# ---- document 01
+# ---- documents 01 and 02
 
 def paper_sections(text):
-    """The sentences of each section of document 01.
+    """The sentences of each section of a paper, under its number.
 
-    A heading begins a section, and so does a first sentence in bold. A row of a table is a sentence. Any other line is
-    a paragraph or an item of a list; in it a sentence ends with a full stop before a space, or with the line.
+    A heading begins a section, and so does a first sentence in bold; one that names a wish has W and the wish's number,
+    the others are counted from 1. A row of a table is a sentence. Any other line is a paragraph or an item of a list; in
+    it a sentence ends with a full stop before a space, or with the line.
     """
-    sections = []
+    sections = {}
     for line in filter(None, map(str.strip, text.splitlines())):
-        title = re.match(r"#+ .*|\*\*[^*]+\.\*\* ", line)
+        title = re.match(r"#+ .*|\*\*(?:Wish (\d+)\. )?[^*]+\.\*\* ", line)
         if title:
-            sections.append([])
+            sentences = sections.setdefault(f"W{title[1]}" if title[1] else str(len(sections) + 1), [])
             line = line[title.end():]
         if line.startswith("|"):
-            sections[-1] += [line] if set(line) - set("|-") else []
+            sentences += [line] if set(line) - set("|-") else []
         elif line:
-            sections[-1] += re.split(r"(?<=\.) ", re.sub(r"^(?:-|\d+\.) ", "", line))
+            sentences += re.split(r"(?<=\.) ", re.sub(r"^(?:-|\d+\.) ", "", line))
     return sections
 
 
 def print_paper(path):
-    """Prints the numbered sentences; returns whether there are as many as SECTIONS says."""
-    sections = paper_sections(Path(path).read_text(encoding="utf-8"))
-    for section, sentences in enumerate(sections, start=1):
-        for at, sentence in enumerate(sentences, start=1):
+    """Prints the numbered sentences of document 01, or of the built wishes of document 02; returns whether there are as
+    many as SECTIONS says."""
+    found = paper_sections(Path(path).read_text(encoding="utf-8"))
+    of_wishes = any(section.startswith("W") for section in found)
+    expected = {section: count for section, (_, count) in SECTIONS.items()
+                if section != "0" and section.startswith("W") == of_wishes}
+    for section in expected:
+        for at, sentence in enumerate(found.get(section, []), start=1):
             print(f"{section}.{at} {sentence}")
-    found, expected = [len(sentences) for sentences in sections], [count for _, count in SECTIONS[1:]]
-    if found != expected:
-        print(f"{path}: the sections have {found} sentences, expected {expected}")
-    return found == expected
+    counts = {section: len(sentences) for section, sentences in found.items() if not of_wishes or section in expected}
+    if counts != expected:
+        print(f"{path}: the sections have {counts} sentences, expected {expected}")
+    return counts == expected
 
 
 # ---- the tree
@@ -157,10 +166,10 @@ def references(cell):
 
 
 def numbers_of(row):
-    """The sentences of a row, as pairs of numbers; none if its first cell has anything else."""
-    if not re.fullmatch(r"\d+\.\d+(?:, \d+\.\d+)*", row["no."]):
+    """The sentences of a row, each a section and a number in it; none if its first cell has anything else."""
+    if not re.fullmatch(r"W?\d+\.\d+(?:, W?\d+\.\d+)*", row["no."]):
         return []
-    return [tuple(map(int, number.split("."))) for number in row["no."].split(", ")]
+    return [(section, int(at)) for section, at in (number.split(".") for number in row["no."].split(", "))]
 
 
 def number_faults(rows):
@@ -170,7 +179,7 @@ def number_faults(rows):
         numbers = numbers_of(row)
         if not numbers or not set(numbers) <= set(SENTENCES):
             yield f"{TRACE}:{at}: no.: {row['no.']}: this is no number of a sentence"
-        elif [last, *numbers] != sorted([last, *numbers]):
+        elif [last, *numbers] != sorted([last, *numbers], key=SENTENCES.index):
             yield f"{TRACE}:{at}: no.: {row['no.']}: this is out of order"
         else:
             last = numbers[0]

@@ -2,24 +2,12 @@
 use mathlib.Core.Path.{_≡_, refl, sym, ap, ap₂, _∙_}
 use mathlib.Core.Bool.{Bool, true, false, _||_, true≢false}
 use mathlib.Core.List.{List, [], _∷_}
-use Prim.Native.Nat.{ℕ, zero, suc, _+_, _≤_, _<_}
-use native.Mathlib.Nat.{le-of-suc-le-suc, not-suc-le-zero}
+use Prim.Native.Nat.{ℕ, _+_, _≤_, _<_}
 use native.Mathlib.Omega.{arith}
 use lib.Dec.{eqb}
-use lib.ListN.{length, getD}
 use borrow.Author.Tests.{eqb-true, eqb-false, eq-eqb, ne-eqb}
-use Rattle.evaluation.specs.Demand.{among}
-
--- what stands at a place of a list is one of it
-pub listed : (xs : List ℕ) (p : ℕ) → p < length xs → among (getD xs p 0) xs ≡ true
-unfolding among
-listed [] p h = absurd (not-suc-le-zero h)
-listed (x ∷ xs) zero h = ap (λ (b : Bool). b || among x xs) (eq-eqb x x refl)
-listed (x ∷ xs) (suc p) h = by (eqb (getD xs p 0) x) (listed xs p (le-of-suc-le-suc h))
-  where
-    by : (b : Bool) → among (getD xs p 0) xs ≡ true → (b || among (getD xs p 0) xs) ≡ true
-    by true e = refl
-    by false e = e
+use Rattle.units.specs.Tests.{among}
+use Rattle.units.proofs.Among.{listed}
 
 module _ (key : ℕ → ℕ) where
   -- keys rise, the first at least `low`

@@ -6,6 +6,7 @@ use Prim.Native.Nat.{ℕ, _+_, _-_, _≤_, _<_}
 use native.Mathlib.Omega.{arith}
 use lib.Dec.{ltb}
 use lib.ListN.{length, getD, drop}
+use Rattle.units.proofs.Among.{listed}
 use Rattle.units.specs.Bytes.{number}
 use Rattle.refusal.specs.declared.Refusal.the-variants as refusal
 use Rattle.refusal.specs.declared.Answer.the-variants as answer
@@ -37,7 +38,6 @@ use Rattle.figure.specs.Figure.{accelerating, constant, reported, GearNotLower,
 use Rattle.figure.proofs.Rising.{rising}
 use Rattle.evaluation.specs.Answer.{answerBy, answerOf, bufferBy, bufferOf}
 use Rattle.evaluation.specs.Demand.{runsOf, chosenRunsBy, chosenRuns, NoneLower, RisesFrom}
-use Rattle.evaluation.proofs.InKeyOrder.{listed}
 use Rattle.evaluation.proofs.SameRuns.{same-list}
 use Rattle.evaluation.proofs.OnlyLevels.{same-track, same-reference, run-rising}
 

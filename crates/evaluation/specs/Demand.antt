@@ -8,6 +8,7 @@ use lib.Dec.{eqb, leb, ltb}
 use lib.Ieee.{Float, binary32, ofBits, lt}
 use lib.ListN.{length, getD}
 use Rattle.units.specs.Bytes.{number}
+use Rattle.units.specs.Tests.{among}
 use Rattle.record.specs.Records.{recordAt, byte}
 use Rattle.window.specs.declared.Four.{Four}
 use Rattle.reference.specs.declared.Reference.{Reference}
@@ -58,11 +59,6 @@ chosenRunsBy (selection.Chosen (Pair rule i j)) = runsOf i ++ runsOf j
 
 unfoldable pub chosenRuns : List ℕ → List ℕ
 chosenRuns s = chosenRunsBy (selectionIn s)
-
--- a number is one of a list
-unfoldable pub among : ℕ → List ℕ → Bool
-among n [] = false
-among n (m ∷ others) = eqb n m || among n others
 
 -- record n is a chosen run
 abbrev pub isChosen : List ℕ → ℕ → Bool

@@ -11,10 +11,10 @@ use lib.Ieee.Fits.{and-l, and-r}
 use lib.ListN.{length, getD}
 use borrow.Author.Tests.{ltb-true, ltb-false, eqb-true}
 use Rattle.units.specs.Bytes.{number}
-use Rattle.units.specs.Tests.{allOf}
+use Rattle.units.specs.Tests.{among, allOf}
 use Rattle.units.proofs.Table.{every, at}
 use Rattle.record.specs.Records.{records, recordAt}
-use Rattle.evaluation.specs.Demand.{among, ofLevel, OnlyLevels, floatAt, lower, NoneLower}
+use Rattle.evaluation.specs.Demand.{ofLevel, OnlyLevels, floatAt, lower, NoneLower}
 use Rattle.examples.specs.Starred.{workedSheet}
 use Rattle.examples.proofs.Computed.{workedRuns, louderSheet, worked-runs, louder-runs}
 

@@ -4,4 +4,5 @@ pub mod Lowest
 pub mod Some
 pub mod Last
 pub mod Tests
+pub mod Among
 pub mod Gathering

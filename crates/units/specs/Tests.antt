@@ -2,6 +2,7 @@
 use mathlib.Core.Bool.{Bool, true, false, _&&_, _||_}
 use mathlib.Core.List.{List, [], _∷_}
 use Prim.Native.Nat.{ℕ, zero, suc, _+_}
+use lib.Dec.{eqb}
 
 -- the lowest of the `count` numbers from n on that passes the test, and the number after them where none does
 unfoldable pub lowest : (ℕ → Bool) → ℕ → ℕ → ℕ
@@ -22,6 +23,11 @@ pastLast test (suc n) = elim (test n) [ true ↦ suc n | false ↦ pastLast test
 unfoldable pub marks : (ℕ → Bool) → ℕ → ℕ → List Bool
 marks test zero n = []
 marks test (suc count) n = test n ∷ marks test count (n + 1)
+
+-- a number is one of a list
+unfoldable pub among : ℕ → List ℕ → Bool
+among n [] = false
+among n (m ∷ others) = eqb n m || among n others
 
 -- every test of the list passes
 abbrev pub allOf : List Bool → Bool

@@ -1,5 +1,6 @@
--- The driven examples of document 01 on windows, and the traps of the spreadsheet, computed from the definitions. Assumes nothing.
-use mathlib.Core.Bool.{Bool, false, _&&_}
+-- The driven examples of document 01 on windows, the traps of the spreadsheet, and levels of one side, by the definitions. Assumes nothing.
+use mathlib.Core.Path.{refl}
+use mathlib.Core.Bool.{Bool, true, false, cond, not, _&&_}
 use mathlib.Core.List.{List, [], _∷_, map}
 use Prim.Native.Nat.{ℕ}
 use lib.Dec.{T, eqb}
@@ -8,7 +9,9 @@ use Rattle.units.specs.Tests.{lowest, allOf}
 use Rattle.window.specs.declared.ValidRun.{ValidRun}
 use Rattle.window.specs.declared.Window.{Window}
 use Rattle.window.specs.declared.Window.the-variants.{Runs, Nothing}
+use Rattle.window.specs.Extremes.{AreExtremes}
 use Rattle.window.specs.Windows.{spanned, fitting, largerSum, conditionLevel, emptyRun, fourAt, firstPlace, firstWindow}
+use Rattle.window.proofs.HeldExtremes.{extremes, first-extremes, next-extremes}
 
 run : ℕ → ℕ → ℕ → ValidRun
 run n l r = record { left = record { 0 = l }; right = record { 0 = r }; start = 0; end = 0; engine = 0; number = n }
@@ -51,3 +54,41 @@ examples =
 every-holds : T (allOf (map holds examples))
 unfolding run isAt isNone holds examples spanned fitting emptyRun fourAt firstPlace firstWindow largerSum conditionLevel lowest rounded
 every-holds = tt
+
+-- ---- one side of four runs (document 02, wish 3)
+
+-- four levels, and whether they span at most 2.0 dB
+data Levels : Type 0 where
+  levels : (a b c d : ℕ) → Bool → Levels
+
+spanHolds : Levels → Bool
+spanHolds (levels a b c d within) = cond within (spanned a b c d) (not (spanned a b c d))
+
+fours : List Levels
+fours =
+    -- 70.0, 72.1, 71.0, 71.0
+    levels 700 721 710 710 false
+    -- 70.0 with 72.0, twice
+    ∷ levels 700 720 700 720 true
+    ∷ levels 716 716 716 716 true
+    -- levels that no meter gives, at the ends of 16 bits; at the upper one the least with 2.0 dB added is more than 16 bits hold
+    ∷ levels 0 0 0 65535 false
+    ∷ levels 65535 65535 65535 65535 true
+    ∷ []
+
+every-span-holds : T (allOf (map spanHolds fours))
+unfolding spanHolds fours spanned
+every-span-holds = tt
+
+-- what a pass over 70.0, 72.1, 69.9, 71.0 holds after each level
+held-after-1 : AreExtremes (700 ∷ []) (extremes 700 700)
+held-after-1 = first-extremes (record { 0 = 700 })
+
+held-after-2 : AreExtremes (700 ∷ 721 ∷ []) (extremes 721 700)
+held-after-2 = next-extremes _ 721 _ _ refl refl held-after-1
+
+held-after-3 : AreExtremes (700 ∷ 721 ∷ 699 ∷ []) (extremes 721 699)
+held-after-3 = next-extremes _ 699 _ _ refl refl held-after-2
+
+held-after-4 : AreExtremes (700 ∷ 721 ∷ 699 ∷ 710 ∷ []) (extremes 721 699)
+held-after-4 = next-extremes _ 710 _ _ refl refl held-after-3

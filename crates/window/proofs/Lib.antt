@@ -1,5 +1,6 @@
 pub mod Searches
 pub mod Parts
+mod HeldExtremes
 mod Examples
 mod Walking
 pub mod Rising

@@ -2,8 +2,10 @@
 // Neither a sheet nor an acceleration is known here.
 use units::Tenths;
 ghost use mathlib.Core.Path.{_≡_};
-ghost use Prim.Native.Nat.{_+_, _≤_, max, min, _-_, _<_};
+ghost use mathlib.Core.List.{List, [], _∷_, _++_, map};
+ghost use Prim.Native.Nat.{ℕ, _+_, _≤_, max, min, _-_, _<_};
 ghost use lib.ListN.{length, take};
+ghost use Rattle.window.specs.Extremes.{AreExtremes};
 ghost use Rattle.window.specs.Windows.{spanned, fitting, conditionLevel, fourAt, firstWindow};
 
 // A run that counts, with its corrected levels.
@@ -45,29 +47,69 @@ pub const EMPTY_FOUR: Four = Four {
     d: EMPTY_RUN,
 };
 
-fn least(a: Tenths, b: Tenths) -> Tenths
+fn lesser(a: Tenths, b: Tenths) -> Tenths
     ensures { λ r. ⌜ r .0 ≡ min (a .0) (b .0) ⌝ }
 {
     if a.0 < b.0 { a } else { b }
 }
 
-fn most(a: Tenths, b: Tenths) -> Tenths
+fn greater(a: Tenths, b: Tenths) -> Tenths
     ensures { λ r. ⌜ r .0 ≡ max (a .0) (b .0) ⌝ }
 {
     if a.0 < b.0 { b } else { a }
 }
 
+// The greatest and the least of the levels read so far.
+struct Extremes {
+    greatest: Tenths,
+    least: Tenths,
+}
+
+// The extremes of the first level read: it is both.
+fn first_read(level: Tenths) -> Extremes
+    ensures { λ r. ⌜ AreExtremes (level .0 ∷ []) r ⌝ }
+{
+    Extremes {
+        greatest: level,
+        least: level,
+    }
+}
+
+// The extremes after one level more, where those of the levels before it, however many, are `held`.
+fn next_read(held: Extremes, level: Tenths) -> Extremes
+    ensures { λ r. ⌜ ((others : List ℕ) → AreExtremes others held → AreExtremes (others ++ level .0 ∷ []) r) ⌝ }
+{
+    Extremes {
+        greatest: greater(held.greatest, level),
+        least: lesser(held.least, level),
+    }
+}
+
+// The pass over the levels of a side, each read once: what it holds after `count` of them.
+fn extremes_of(levels: [Tenths; 4], count: usize) -> Extremes
+    requires { ⌜ (1 ≤ count) × (count ≤ 4) ⌝ }
+    ensures { λ r. ⌜ AreExtremes (map (λ level. level .0) (take count levels)) r ⌝ }
+{
+    let mut held = first_read(levels[0]);
+    let mut i = 1;
+    while i < count {
+        held = next_read(held, levels[i]);
+        i += 1;
+    }
+    held
+}
+
 // The widest span of four neighbours, 2.0 dB.
 const WIDEST: Tenths = Tenths(20);
 
-// Whether four levels span at most 2.0 dB.
+// Whether four levels span at most 2.0 dB. There is no bad input: they are any four numbers of 16 bits, and at 32 bits the least with
+// 2.0 dB added cannot overflow.
 fn spans(a: Tenths, b: Tenths, c: Tenths, d: Tenths) -> bool
     ensures { λ r. ⌜ r ≡ spanned (a .0) (b .0) (c .0) (d .0) ⌝ }
 {
-    let high = most(most(a, b), most(c, d));
-    let low = least(least(a, b), least(c, d));
-    let limit = low.0 as u32 + WIDEST.0 as u32;
-    (high.0 as u32) <= limit
+    let held = extremes_of([a, b, c, d], 4);
+    let limit = held.least.0 as u32 + WIDEST.0 as u32;
+    (held.greatest.0 as u32) <= limit
 }
 
 // The four-value test: both sides of four runs.
