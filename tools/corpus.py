@@ -1,5 +1,5 @@
 #!/usr/bin/env python3
-"""The corpus: a fixed set of sheets with the reckoner's line for each, beside document 01's examples by sheets.
+"""The corpus: a fixed set of sheets with the reckoner's line for each, beside the driven examples by sheets.
 
     python3 tools/corpus.py --spread                the spread over rules, refusals and groups; fails if one is thin
     python3 tools/corpus.py --write DIR             writes data/examples.bin, data/sheets.bin and stdout
@@ -21,6 +21,7 @@ from examples import example_sheets
 from groups import GROUPS, random_session
 from make import Random, beside_starts
 from reckon import Refused, chosen_records, excess, is_close, line, reckon, records_of, rise
+from window_groups import rising_at_steps
 
 EXAMPLES, SHEETS, LINES = os.path.join("data", "examples.bin"), os.path.join("data", "sheets.bin"), "stdout"
 SEED = 51
@@ -162,11 +163,21 @@ def check_rising(found):
     return fallen == 0
 
 
+def check_steps():
+    """Prints how many of the corpus's own pairs rise; returns whether demand 3 speaks of each of them and none falls."""
+    sheets = [sheet for group, sheet in corpus() if group == rising_at_steps.__name__]
+    found = [rise(first, second) for first, second in zip(sheets[::2], sheets[1::2])]
+    risen, stayed = sum(by is not None and by > 0 for by in found), found.count(0)
+    print(f"at the steps of the corrections: {risen} of {len(found)} pairs rise, {stayed} stay")
+    return risen > 0 and risen + stayed == len(found)
+
+
 def demand_3():
     random = Random(SEED)
     found = list(accepted(all_sheets() + [random_session(random) for _ in range(MORE_SESSIONS)]))
     close = check_close([evaluation for _, evaluation in found])
-    return check_rising(found) and close
+    steps = check_steps()
+    return check_rising(found) and steps and close
 
 
 def write_damaged(count, seed, directory):

@@ -1,5 +1,5 @@
 #!/usr/bin/env python3
-"""Document 01's driven examples, and each line of "Where the spreadsheet tempts".
+"""Document 01's driven examples, those of document 02's wish 2, and each line of "Where the spreadsheet tempts".
 
     python3 tools/examples.py                prints each example; fails if the reckoner's answer is not the paper's
     python3 tools/examples.py --write DIR    writes stdout of the test program `driven`
@@ -20,9 +20,9 @@ from sheets import decibels, run, sheet, speeds_for, tenths, vehicle, worked_she
 STAR = "★ "
 
 
-def level_tenths(text):
-    """A float's tenths: a background of 0 leaves it uncorrected."""
-    return corrected(reckon.float_value(decibels(text)), 0)
+def tenths_of_text(text):
+    """The tenths of the float that is nearest to a number."""
+    return reckon.level_tenths(reckon.float_value(decibels(text)))
 
 
 def taken_off(d):
@@ -71,14 +71,17 @@ def side_sheet(lefts, rights):
 # Each example: what the paper says, in words; the paper's answer; the reckoner's answer.
 
 def roundings():
-    yield STAR + "72.25 gives 72.3", 723, level_tenths("72.25")
-    yield STAR + "72.125 gives 72.1", 721, level_tenths("72.125")
+    yield STAR + "72.25 gives 72.3", 723, tenths_of_text("72.25")
+    yield STAR + "72.125 gives 72.1", 721, tenths_of_text("72.125")
 
 
 def corrections():
-    yield STAR + "d 10.9: 0.5 off", 5, taken_off(109)
+    yield STAR + "d 10.9: 0.4 off", 4, taken_off(109)
     yield "d 9.9: not valid", "not valid", taken_off(99)
     yield STAR + "d 15.0: none off", 0, taken_off(150)
+    yield "d 10.4: 0.5 off (document 02)", 5, taken_off(104)
+    yield "d 10.5: 0.4 off (document 02)", 4, taken_off(105)
+    yield "d 14.5: none off (document 02)", 0, taken_off(145)
 
 
 def windows():
@@ -172,9 +175,10 @@ def is_window(*levels):
 
 
 def side_lines():
-    yield "72.25", 723, level_tenths("72.25")
-    yield "72.125", 721, level_tenths("72.125")
-    for text, d, paper in (("d 10.9", 109, 504), ("d 9.9", 99, "not valid"), ("d 15.0", 150, 550)):
+    yield "72.25", 723, tenths_of_text("72.25")
+    yield "72.125", 721, tenths_of_text("72.125")
+    for text, d, paper in (("d 10.4", 104, 499), ("d 10.5", 105, 501), ("d 10.9", 109, 505), ("d 14.4", 144, 543),
+                           ("d 14.5", 145, 545), ("d 15.0", 150, 550), ("d 15.9", 159, 559), ("d 9.9", 99, "not valid")):
         level = corrected(Fraction(400 + d, 10), 400)
         yield text, paper, "not valid" if level is None else level
 
@@ -221,7 +225,10 @@ def sheet_answers():
     # W is the mean of runs 2 to 5, 71.275, and of runs 1 to 4, 71.0
     yield level_sheet("70.0", "72.1", "71.0", "71.0", "71.0"), "OK 1 3 0 100 29 713 650"
     yield level_sheet("70.0", "72.0", "71.0", "71.0", "71.0"), "OK 1 3 0 100 29 710 650"
-    yield level_sheet(*("50.9",) * 4), "OK 1 3 0 100 100 504 650"
+    yield level_sheet(*("50.4",) * 4), "OK 1 3 0 100 100 499 650"
+    yield level_sheet(*("50.5",) * 4), "OK 1 3 0 100 100 501 650"
+    yield level_sheet(*("50.9",) * 4), "OK 1 3 0 100 100 505 650"
+    yield level_sheet(*("54.5",) * 4), "OK 1 3 0 100 100 545 650"
     yield level_sheet(*("49.9",) * 4), "REFUSED 7 3"
     yield level_sheet(*("55.0",) * 4), "OK 1 3 0 100 100 550 650"
     for power, mass, paper in ((500, 2000, "79 81 250"), (498, 2000, "79 79 249"), (1000, 1000, "117 177 1000"),

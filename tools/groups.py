@@ -108,5 +108,7 @@ GROUPS = (
     of_gears.nearest_by_hundredths, of_gears.sixteenth_gear, of_gears.equal_after_rounding, of_gears.weighed_by_floats,
     of_gears.L_urban_by_floats, of_windows.struck_alone, of_gears.k_and_kp_by_floats,
     of_windows.set_aside_between, of_gears.equal_levels_by_rule, of_gears.rule_2_kp_halves,
-    of_gears.rule_4_levels, of_gears.kp_rounded_first,
+    of_gears.rule_4_levels, of_gears.kp_rounded_first, of_windows.each_tenth_of_d,
+    of_windows.each_tenth_of_d_on_one_side, of_windows.floats_at_steps, of_windows.spans_within_by_rounding,
+    of_windows.spans_within_by_dropping, of_windows.rising_at_steps,
 )

@@ -1,4 +1,4 @@
-"""What other readings of document 01 are made of. A reading is its words with the names of `reckon` that it replaces."""
+"""What other readings of documents 01 and 02 are made of. A reading is its words with the names of `reckon` that it replaces."""
 
 import inspect
 import struct
@@ -57,6 +57,17 @@ def for_kind(kind, changes):
         with reading({"find_window": PAPER["find_window"], **changes}):
             return reckon.find_window(runs, vehicle, of, gear)
     return {"find_window": find_window}
+
+
+def for_side(side, changes):
+    """A reading of the levels on one side only."""
+    other = "right" if side == "left" else "left"
+    def valid_run(run, vehicle):
+        with reading(changes):
+            read = PAPER["valid_run"](run._replace(**{other: getattr(run, side)}), vehicle)
+        kept = PAPER["valid_run"](run._replace(**{side: getattr(run, other)}), vehicle)
+        return read and kept and read._replace(**{other: getattr(kept, other)})
+    return {"valid_run": valid_run}
 
 
 def for_rule(rule, changes):

@@ -1,5 +1,5 @@
 #!/usr/bin/env python3
-"""Other readings of document 01, and the sheets of the corpus that tell each from the reckoner's.
+"""Other readings of documents 01 and 02, and the sheets of the corpus that tell each from the reckoner's.
 
     python3 tools/readings.py [--all] [--sheets] [WORDS]
         for each reading with these words in its name, how many sheets tell it apart; stops at a few of them unless --all

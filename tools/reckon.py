@@ -1,5 +1,5 @@
 #!/usr/bin/env python3
-"""Separate reckoning of pass-by sheets, written from document 01 alone.
+"""Separate reckoning of pass-by sheets, written from documents 01 and 02 alone.
 
 Every rule is reckoned with whole numbers and fractions; no floating-point number takes part.
     python3 tools/reckon.py < sheet      prints the line of the evaluation program
@@ -26,7 +26,7 @@ RUN_UNNAMED = (*range(5, 8), *range(22, 32))
 CLOSING_UNNAMED = (1, *range(6, 32))
 
 LOWEST_LEVEL, HIGHEST_LEVEL = Fraction(20), Fraction(140)
-CORRECTIONS = {10: 5, 11: 4, 12: 3, 13: 2, 14: 1, 15: 0}  # whole dB of d: tenths taken off (step 2)
+CORRECTIONS = {10: 5, 11: 4, 12: 3, 13: 2, 14: 1, 15: 0}  # whole dB nearest to d: tenths taken off (step 2)
 LOWEST_DIFFERENCE = 100  # tenths (step 3)
 WIDEST_SPAN = 20  # tenths (step 4)
 CEILING = 300  # 3.00 m/s² in hundredths (gear rules 2 to 4)
@@ -207,13 +207,23 @@ def read_run(at, record):
 
 # From levels to windows.
 
+def level_tenths(value):
+    """Step 1."""
+    return rounded(10 * value)
+
+
+def correction(d):
+    """Step 2: the tenths taken off, by the whole decibel nearest to d (document 02, wish 2)."""
+    return CORRECTIONS.get(rounded(Fraction(d, 10)), 0)
+
+
 def corrected(value, background):
-    """Steps 1 to 3 for one side: the corrected level in tenths, or None if d is below 10.0."""
-    level = rounded(10 * value)
+    """Steps 1 to 3 for one side: the corrected level in tenths, or None if d itself is below 10.0."""
+    level = level_tenths(value)
     d = level - background
     if d < LOWEST_DIFFERENCE:
         return None
-    return level - CORRECTIONS.get(d // 10, 0)
+    return level - correction(d)
 
 
 def run_acceleration(run, vehicle):

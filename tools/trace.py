@@ -38,7 +38,7 @@ SECTIONS = {
     "4": ("From levels to windows", 17), "5": ("Gears", 15), "6": ("L_urban", 26), "7": ("Driven examples", 15),
     "8": ("Whole sheet and the program", 9), "9": ("Where the spreadsheet tempts", 4),
     "10": ("The shape of each place", 14), "11": ("Note from the buyer", 7),
-    "W3": ("The four-run span in one walk", 3),
+    "W2": ("Differences at the nearest whole decibel", 5), "W3": ("The four-run span in one walk", 3),
 }
 SENTENCES = [(section, at) for section, (_, count) in SECTIONS.items() for at in range(1, count + 1)]
 

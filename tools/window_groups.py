@@ -1,6 +1,6 @@
 """Groups of the corpus about levels, windows and accelerations: refusal 7."""
 
-from itertools import islice
+from itertools import islice, product
 
 import sheets
 from make import (QUIET_PMRS, USUAL_PMRS, Gear, acceleration_runs, car_of, constant_runs, float_at_edge, float_step,
@@ -309,3 +309,109 @@ def set_aside_between(random):
             runs = records_of(one_gear_sheet(random, W=720, C=680))[1:-1]
             for at in (1, 2, 3):
                 yield sheet(vehicle(), runs[:first + at] + [stray] + runs[first + at:])
+
+
+# Corrections: the table is read at the whole decibel nearest to d.
+
+RUN_KINDS = (ACCELERATION_RUN, CONSTANT_RUN)
+# The first d with 0.4 off: at the nearest whole decibel, and with the fraction dropped.
+FIRST_STEP, FIRST_STEP_DROPPED = 105, 110
+CORRECTION_STEPS = range(FIRST_STEP, FIRST_STEP + 50, 10)
+
+
+def corrected_difference(d, first_step=FIRST_STEP):
+    """d less its correction: 0.5 below the first step, and 0.1 less from each of five steps on, 1.0 dB apart."""
+    return d - sum(d < step for step in range(first_step, first_step + 50, 10))
+
+
+def four_levels(background, d):
+    return [tenths(background + d)] * 4
+
+
+def one_of_four(random, background, one, others):
+    """Four levels: one d, and three times another."""
+    levels = four_levels(background, others)
+    levels[random.below(4)] = tenths(background + one)
+    return levels
+
+
+def levels_sheet(kind, lefts, rights, background, others=200, **car):
+    """One gear: the runs of one kind have these levels, those of the other kind all the same d."""
+    both = four_levels(background, others)
+    sides = {ACCELERATION_RUN: (both, both), CONSTANT_RUN: (both, both), kind: (lefts, rights)}
+    runs = [run(each, 3, left, right, 450, 540) for each in RUN_KINDS for left, right in zip(*sides[each])]
+    return sheet(vehicle(background=background, **car), runs, background)
+
+
+def on_each_side(kind, near, other, background):
+    """The same four levels on the left, and on the right."""
+    yield levels_sheet(kind, near, other, background)
+    yield levels_sheet(kind, other, near, background)
+
+
+def each_tenth_of_d(random):
+    """Every tenth of d from 9.0 to 17.0 on one side, beside 10.0 on the other: W or C tells its correction."""
+    for d, kind in product(range(90, 171), RUN_KINDS):
+        yield from on_each_side(kind, four_levels(500, d), four_levels(500, 100), 500)
+
+
+def farthest(d):
+    """The highest d whose corrected level is at most 2.0 dB above that of this d."""
+    return max(high for high in range(d, d + 21) if corrected_difference(high) - corrected_difference(d) <= 20)
+
+
+def each_tenth_of_d_on_one_side(random):
+    """Every tenth of d from 9.0 to 17.0 in one run of one side, the other side far above.
+
+    From 10.0 on, the three other runs are as far above as a span of 2.0 allows, and a tenth farther.
+    """
+    for d, kind in product(range(90, 171), RUN_KINDS):
+        for others in (farthest(d), farthest(d) + 1) if d >= 100 else (105,):
+            yield from on_each_side(kind, one_of_four(random, 500, d, others), four_levels(500, 250), 500)
+
+
+def floats_at_steps(random):
+    """The lowest float of the tenth where d is 10.0 or a step of the corrections, and the highest of the tenth before."""
+    for background, d, kind in product((150, 301, 455, 607, 1000), (100, *CORRECTION_STEPS), RUN_KINDS):
+        for four in (float_at_edge(background + d - 1, 1), float_at_edge(background + d, -1)):
+            yield from on_each_side(kind, [four] * 4, four_levels(background, 100), background)
+
+
+def spans_of(random, by_rounding, by_dropping):
+    """One run below three others, by these spans: with d at the nearest whole decibel, and with its fraction dropped."""
+    for background, low in product((400, 523), range(100, 150)):
+        for high in range(low, low + 22):
+            spans = [corrected_difference(high, first) - corrected_difference(low, first)
+                     for first in (FIRST_STEP, FIRST_STEP_DROPPED)]
+            if spans == [by_rounding, by_dropping]:
+                for kind in RUN_KINDS:
+                    near = one_of_four(random, background, low, high)
+                    yield from on_each_side(kind, near, four_levels(background, 250), background)
+
+
+def spans_within_by_rounding(random):
+    """Spans of 2.0 that are 2.1 if the fraction of d is dropped."""
+    yield from spans_of(random, 20, 21)
+
+
+def spans_within_by_dropping(random):
+    """Spans of 2.1 that are 2.0 if the fraction of d is dropped."""
+    yield from spans_of(random, 21, 20)
+
+
+def rising_at_steps(random):
+    """Pairs for "rising": the d of one run or of four rises to a step of the corrections.
+
+    W or C is at a half decibel before, where any fall would lower L_urban, or 0.1 below it, where a rise shows.
+    """
+    sides = ((True, False), (False, True), (True, True))
+    for step, below, count, (lowest, tenth), kind, loud in product(
+            CORRECTION_STEPS, (1, 5), (1, 4), ((300, 5), (500, 4)), RUN_KINDS, sides):
+        background = lowest + (tenth - corrected_difference(step - below)) % 10
+        # L_urban is W below PMR 25.0, and C where W is below it
+        car = dict(power=200, mass=1000) if kind == ACCELERATION_RUN else {}
+        quiet, start, end = (four_levels(background, d) for d in (100, step - below, step))
+        for risen in (0, count):
+            near = end[:risen] + start[risen:]
+            lefts, rights = (near if is_loud else quiet for is_loud in loud)
+            yield levels_sheet(kind, lefts, rights, background, others=100, **car)

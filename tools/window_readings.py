@@ -4,19 +4,19 @@ import math
 from fractions import Fraction
 
 import reckon
-from misread import (PAPER, Single, before, by_a_tenth_first, by_edit, by_floats, for_kind, half_down, half_from_zero, half_to_even,
-                     not_at_all, rounding_in, simple)
+from misread import (PAPER, Single, before, by_a_tenth_first, by_edit, by_floats, for_kind, for_side, half_down, half_from_zero,
+                     half_to_even, not_at_all, rounding_in, simple)
 from reckon import ABSENT, ACCELERATION_RUN, CONSTANT_RUN, LEVEL, OVERLOAD, rounded, span
 
 # Roundings, here and in the gear rules and L_urban.
 
-STEPS = (("corrected", "a level"), ("condition_level", "a condition's level"), ("run_acceleration", "a run's acceleration"),
-         ("gear_acceleration", "a gear's acceleration"), ("pmr_tenths", "PMR"), ("k_hundredths", "k"),
-         ("weighed_tenths", "a weighed level"), ("kp_hundredths", "kp"), ("L_urban_of", "L_urban"))
+STEPS = (("level_tenths", "a level"), ("correction", "d"), ("condition_level", "a condition's level"),
+         ("run_acceleration", "a run's acceleration"), ("gear_acceleration", "a gear's acceleration"), ("pmr_tenths", "PMR"),
+         ("k_hundredths", "k"), ("weighed_tenths", "a weighed level"), ("kp_hundredths", "kp"), ("L_urban_of", "L_urban"))
 WAYS = (("a half goes down", half_down), ("a half goes to the even number", half_to_even),
         ("a half goes away from zero", half_from_zero), ("is rounded to a tenth of its unit first", by_a_tenth_first))
 ROUNDINGS = [(f"{step}: {words}", rounding_in(name, way)) for words, way in WAYS for name, step in STEPS]
-NOT_ROUNDED = [(f"{step} is not rounded", rounding_in(name, not_at_all)) for name, step in STEPS[:4]]
+NOT_ROUNDED = [(f"{step} is not rounded", rounding_in(name, not_at_all)) for name, step in STEPS[:5]]
 
 
 # Floats for fractions.
@@ -53,30 +53,50 @@ FLOATS = [(f"{words} by {size} floats", changes) for words, name, formula in (
 FLOATS += [("a level by 32-bit floats", corrected_by_floats(Single)), ("a level by 64-bit floats", corrected_by_floats(float))]
 
 
-# Step 2 and 3: levels and valid runs.
+# Steps 1 to 3: levels and valid runs.
+
+NEAREST = "rounded(Fraction(d, 10))"
+OFF = f"CORRECTIONS.get({NEAREST}, 0)"
+BESIDE_STEPS = [pair for step in range(105, 155, 10) for pair in ((step - 1, step), (step, step - 1))]
 
 CORRECTED = by_edit(
     ("d from the float, before rounding", "corrected", "if d < LOWEST_DIFFERENCE", "if 10 * value - background < LOWEST_DIFFERENCE"),
     ("d above 10.0", "corrected", "d < LOWEST_DIFFERENCE", "d <= LOWEST_DIFFERENCE"),
-    ("d at least 10.0 after the correction", "corrected", "return level - CORRECTIONS.get(d // 10, 0)",
-     "return level - CORRECTIONS.get(d // 10, 0) if d - CORRECTIONS.get(d // 10, 0) >= 100 else None"),
-    ("d rounded, not its fraction dropped", "corrected", "d // 10", "rounded(Fraction(d, 10))"),
-    ("d rounded up", "corrected", "d // 10", "-(-d // 10)"),
-    ("the float's fraction of d dropped", "corrected", "d // 10", "(10 * value - background).__floor__() // 10"),
-    ("corrections between the whole decibels", "corrected", "CORRECTIONS.get(d // 10, 0)", "max(rounded(Fraction(150 - d, 10)), 0)"),
-    ("no correction", "corrected", "level - CORRECTIONS.get(d // 10, 0)", "level"),
-    ("the correction is added", "corrected", "level - CORRECTIONS", "level + CORRECTIONS"),
-    ("0.5 off for every d to 15.0", "corrected", "CORRECTIONS.get(d // 10, 0)", "5 if d < 150 else 0"),
-    ("0.1 off above 15", "corrected", "get(d // 10, 0)", "get(d // 10, 1)"),
-    ("0.5 off below 10, and valid", "corrected", "if d < LOWEST_DIFFERENCE", "if d < 0"),
+    ("d at least 10.0 after the correction", "corrected", "if d < LOWEST_DIFFERENCE", "if d - correction(d) < LOWEST_DIFFERENCE"),
+    ("d at least 10.0 after its rounding", "corrected", "if d < LOWEST_DIFFERENCE", f"if 10 * {NEAREST} < LOWEST_DIFFERENCE"),
+    ("d at least 9.5, nothing off below 10.0", "corrected", "return None", "return level if d >= 95 else None"),
+    ("0.5 off below 10.0, and valid", "corrected", "return None", "return level - 5"),
     ("no level below 10.0 is set aside", "corrected", "if d < LOWEST_DIFFERENCE", "if False"),
     ("d from a background of 0", "corrected", "level - background", "level"),
-    ("the correction before the rounding", "corrected", "level - CORRECTIONS.get(d // 10, 0)",
-     "rounded(10 * value - CORRECTIONS.get(int(10 * value - background) // 10, 0))"),
-    ("a level's fraction of a tenth is dropped", "corrected", "rounded(10 * value)", "int(10 * value)"),
-    ("a level to half a decibel", "corrected", "rounded(10 * value)", "5 * rounded(2 * value)"),
-    ("a level to a whole decibel", "corrected", "rounded(10 * value)", "10 * rounded(value)"),
-    ("a level to a hundredth first", "corrected", "rounded(10 * value)", "rounded(Fraction(rounded(100 * value), 10))"),
+    ("the float's d rounded to a whole decibel at once", "corrected", "correction(d)", "correction(10 * value - background)"),
+    ("the float's fraction of d dropped", "corrected", "correction(d)", "correction((10 * value - background) // 10 * 10)"),
+    ("level and background each to whole decibels", "corrected", "correction(d)",
+     "correction(10 * (rounded(Fraction(level, 10)) - rounded(Fraction(background, 10))))"),
+    ("no correction", "corrected", "level - correction(d)", "level"),
+    ("the correction is added", "corrected", "level - correction(d)", "level + correction(d)"),
+    ("0.1 less off", "corrected", "level - correction(d)", "level - correction(d) + 1"),
+    *((words, "correction", NEAREST, whole) for words, whole in (
+        ("the fraction of d dropped", "d // 10"),
+        ("d rounded up", "-(-d // 10)"),
+        ("a half of d goes to the odd number", f"{NEAREST} - (d % 20 == 15)"),
+        ("d to half a decibel first", "rounded(Fraction(rounded(Fraction(d, 5)), 2))"),
+        ("the correction of the decibel below", f"{NEAREST} - 1"),
+        ("the correction of the decibel above", f"{NEAREST} + 1"),
+        ("the last correction past the table's end", f"min({NEAREST}, 15)"),
+        ("the last correction but one past its place", f"min({NEAREST}, 14)"),
+        *((f"d {d / 10} has the correction of {other / 10}", f"rounded(Fraction({other} if d == {d} else d, 10))")
+          for d, other in BESIDE_STEPS))),
+    *((words, "correction", OFF, off) for words, off in (
+        ("corrections between the whole decibels", "max(rounded(Fraction(150 - d, 10)), 0)"),
+        ("corrections between the whole decibels, not rounded", "max(Fraction(150 - d, 10), 0)"),
+        ("0.5 off for every d to 15.0", "5 if d < 150 else 0"),
+        ("0.1 off from 14.5 to 14.9", f"1 if 145 <= d < 150 else {OFF}"),
+        ("0.1 off above 15", f"CORRECTIONS.get({NEAREST}, 1)"))),
+    *((words, "level_tenths", "rounded(10 * value)", tenths) for words, tenths in (
+        ("a level's fraction of a tenth is dropped", "int(10 * value)"),
+        ("a level to half a decibel", "5 * rounded(2 * value)"),
+        ("a level to a whole decibel", "10 * rounded(value)"),
+        ("a level to a hundredth first", "rounded(Fraction(rounded(100 * value), 10))"))),
 )
 
 
@@ -139,18 +159,7 @@ VALID = by_edit(
 )
 
 
-def with_side(side, level):
-    """A valid run with another level on one side."""
-    def valid_run(run, vehicle):
-        valid = PAPER["valid_run"](run, vehicle)
-        return valid and valid._replace(**{side: level(getattr(run, side).value, getattr(valid, side))})
-    return {"valid_run": valid_run}
-
-
-SIDES = [(f"the {side} level is {words}", with_side(side, level)) for side in ("left", "right") for words, level in (
-    ("not corrected", lambda value, corrected: rounded(10 * value)),
-    ("cut to a tenth", lambda value, corrected: corrected - rounded(10 * value) + int(10 * value)),
-    ("0.1 higher", lambda value, corrected: corrected + 1))]
+SIDES = [(f"{words}, {side} only", for_side(side, changes)) for words, changes in CORRECTED for side in ("left", "right")]
 
 
 # Step 4: windows.
@@ -436,6 +445,8 @@ def same_for_every_sum():
 
 TRIED = (same_for_every_sum,)
 
+EACH_KIND = ("", ", acceleration runs only", ", constant speed only")
+
 # Readings that give the same answer on every sheet, by the reason.
 EQUIVALENT = {
     "nothing that is rounded is below zero": [f"{step}: a half goes away from zero" for _, step in STEPS],
@@ -443,11 +454,13 @@ EQUIVALENT = {
         "a condition's level: is rounded to a tenth of its unit first", "a gear's acceleration: is rounded to a tenth of its unit first"],
     "a quarter is exact in a float, and `same_for_every_sum` tries its tenth": [
         f"a {what} by {size} floats" for what in ("gear's acceleration", "condition's level") for size in ("32-bit", "64-bit")],
+    "d is in whole tenths": ["d: is rounded to a tenth of its unit first"],
+    "nothing is taken off at 15 dB or above it": [
+        f"the last correction past the table's end{side}{runs}" for side in ("", ", left only", ", right only") for runs in EACH_KIND],
     "ten times a 32-bit float is exact in 64 bits": ["a level by 64-bit floats"],
     "a half is exact, and any other quotient is further from one than its error": ["a run's acceleration by 64-bit floats"],
-    "no rule tells left from right": [f"sides exchanged{runs}" for runs in ("", ", acceleration runs only", ", constant speed only")],
-    "0 is not 10.0 above a background": [
-        f"an absent reading is the level 0{runs}" for runs in ("", ", acceleration runs only", ", constant speed only")],
+    "no rule tells left from right": [f"sides exchanged{runs}" for runs in EACH_KIND],
+    "0 is not 10.0 above a background": [f"an absent reading is the level 0{runs}" for runs in EACH_KIND],
     "rounding keeps the order of the two": ["both means are rounded, the larger one counts"],
     "625 x (1,500² - 10²) is below 2^31": ["the product by 31 bits"],
 }

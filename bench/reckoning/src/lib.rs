@@ -1,4 +1,4 @@
-//! The evaluation of a pass-by sheet in plain Rust, written from document 01.
+//! The evaluation of a pass-by sheet in plain Rust, written from documents 01 and 02.
 
 mod gears;
 pub mod reference;

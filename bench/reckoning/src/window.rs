@@ -1,9 +1,11 @@
-//! Valid runs and windows (document 01, "From levels to windows").
+//! Valid runs and windows (document 01, "From levels to windows"; document 02, wish 2).
 
 use crate::rounded;
 use crate::sheet::{Reading, Run, RunKind, Session};
 
+/// Tenths taken off, by the whole decibels from 10 on.
 const CORRECTIONS: [i32; 6] = [5, 4, 3, 2, 1, 0];
+const LOWEST_DIFFERENCE: i32 = 100;
 const WIDEST_SPAN: i32 = 20;
 
 /// A valid run: corrected levels in tenths, speeds and engine speed.
@@ -38,10 +40,14 @@ impl ValidRun {
     }
 }
 
-/// Step 2: the corrected level, if d is at least 10.0.
+/// Step 2: the corrected level, if d is at least 10.0. Its correction is that of the whole decibel nearest to d.
 fn corrected(level: i32, background: i32) -> Option<i32> {
     let d = level - background;
-    let off = CORRECTIONS.get(usize::try_from(d / 10 - 10).ok()?).unwrap_or(&0);
+    if d < LOWEST_DIFFERENCE {
+        return None;
+    }
+    let nearest = rounded(d as u32, 10) as usize;
+    let off = CORRECTIONS.get(nearest - 10).unwrap_or(&0);
     Some(level - off)
 }
 

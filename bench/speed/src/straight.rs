@@ -7,6 +7,7 @@ use reckoning::Refusal;
 const RECORD: usize = 32;
 const MOST_RECORDS: usize = 1024;
 const CEILING: u32 = 300;
+/// Tenths taken off, by the whole decibels from 10 on.
 const CORRECTIONS: [u32; 6] = [5, 4, 3, 2, 1, 0];
 
 type Record = [u8; RECORD];
@@ -90,11 +91,12 @@ fn rounded(numerator: u32, denominator: u32) -> u32 {
     (numerator + denominator / 2) / denominator
 }
 
-/// The corrected level in tenths, if d is at least 10.0. Product and sum are exact: a float has 24 bits, and an f64 53.
+/// The corrected level in tenths, if d is at least 10.0: less the correction of the whole decibel nearest to d.
+/// Product and sum are exact: a float has 24 bits, and an f64 53.
 fn corrected(pattern: u32, background: u32) -> Option<u32> {
     let level = (f64::from(f32::from_bits(pattern)) * 10.0 + 0.5) as u32;
-    let whole = level.checked_sub(background + 100)? / 10;
-    Some(level - CORRECTIONS.get(whole as usize).unwrap_or(&0))
+    let nearest = rounded(level.checked_sub(background + 100)?, 10);
+    Some(level - CORRECTIONS.get(nearest as usize).unwrap_or(&0))
 }
 
 #[derive(Clone, Copy, Default)]

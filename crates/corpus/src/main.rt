@@ -1,4 +1,4 @@
-// Prints the line of each sheet of document 01's examples, and then of each of the corpus. In a file, a sheet stands after its length in
+// Prints the line of each sheet of the driven examples, and then of each of the corpus. In a file, a sheet stands after its length in
 // four bytes, low byte first; the length 0xffffffff ends the file.
 use libc::STDOUT_FILENO;
 use program::Transfer;

@@ -1,4 +1,5 @@
-// Document 01's driven examples, and what stands under "Where the spreadsheet tempts", by single functions: each on a line.
+// The driven examples of document 01, those of wish 2 of document 02, and what stands under "Where the spreadsheet tempts", by single
+// functions: each on a line.
 use gears::Choice;
 use gears::Gear;
 use level::Reading;
@@ -39,9 +40,14 @@ fn side(text: &[u8], x: f32, background: u16) {
 fn sides() {
     side(b"72.25 ", 72.25, 0);
     side(b"72.125 ", 72.125, 0);
+    side(b"d 10.4 ", 50.4, 400);
+    side(b"d 10.5 ", 50.5, 400);
     side(b"d 10.9 ", 50.9, 400);
-    side(b"d 9.9 ", 49.9, 400);
+    side(b"d 14.4 ", 54.4, 400);
+    side(b"d 14.5 ", 54.5, 400);
     side(b"d 15.0 ", 55.0, 400);
+    side(b"d 15.9 ", 55.9, 400);
+    side(b"d 9.9 ", 49.9, 400);
 }
 
 fn run_of(left: u16, right: u16) -> ValidRun {

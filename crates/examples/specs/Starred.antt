@@ -1,4 +1,5 @@
--- The starred examples of document 01 ("Driven examples"): for each, what the rules give and what they should give, as numbers.
+-- The starred examples of document 01 ("Driven examples"), that of d 10.9 as wish 2 of document 02 has it: for each, what the rules give
+-- and what they should give, as numbers.
 -- Levels are in tenths of dB(A), accelerations in hundredths of m/s², speeds in tenths of km/h; floats are written by their bit patterns.
 use mathlib.Core.Path.{_≡_}
 use mathlib.Core.List.{List, [], _∷_, _++_, map}
@@ -139,8 +140,8 @@ starred =
     -- 72.25 gives 72.3, 72.125 gives 72.1
     tenths 0x4290_8000 723
     ∷ tenths 0x4290_4000 721
-    -- over 40.0: d 10.9 takes 0.5 off, d 15.0 nothing
-    ∷ corrected 509 400 504
+    -- over 40.0: d 10.9 takes 0.4 off, d 15.0 nothing
+    ∷ corrected 509 400 505
     ∷ corrected 550 400 550
     -- 70.0, 72.1, 71.0, 71.0, 71.0: runs 2 to 5
     ∷ windowed (700 ∷ 721 ∷ 710 ∷ 710 ∷ 710 ∷ []) (2 ∷ 3 ∷ 4 ∷ 5 ∷ [])

@@ -1,5 +1,5 @@
--- The driven examples of document 01 on levels, computed from the definitions. Floats are written by their bit patterns.
--- Assumes nothing.
+-- The driven examples of document 01 and of document 02's wish 2 on levels, computed from the definitions. Floats are written by their
+-- bit patterns. Assumes nothing.
 use mathlib.Core.Path.{_≡_, refl}
 use mathlib.Core.Bool.{Bool, true, false, _&&_, not}
 use Prim.Native.Nat.{ℕ}
@@ -21,29 +21,48 @@ rounding : T (eqb (tenths-of-pattern 0x4290_8000) 723 && eqb (tenths-of-pattern 
 unfolding tenths-of-pattern
 rounding = tt
 
--- over 40.0: d 10.9 takes 0.5 off, d 15.0 and d 16.0 nothing, d 10.0 counts, d 9.9 does not, nor does a level below its background
-d-10-9 : correctedSide 509 400 ≡ Corrected (record { 0 = 504 })
-unfolding correctedSide correctionOf corrections
+-- the first and the last difference that each entry of the table stands for, and the first past its end
+ends-of-entries :
+    T
+    (eqb (correctionOf 100) 5
+    && eqb (correctionOf 104) 5
+    && eqb (correctionOf 105) 4
+    && eqb (correctionOf 114) 4
+    && eqb (correctionOf 115) 3
+    && eqb (correctionOf 124) 3
+    && eqb (correctionOf 125) 2
+    && eqb (correctionOf 134) 2
+    && eqb (correctionOf 135) 1
+    && eqb (correctionOf 144) 1
+    && eqb (correctionOf 145) 0
+    && eqb (correctionOf 154) 0
+    && eqb (correctionOf 155) 0)
+unfolding correctionOf corrections rounded
+ends-of-entries = tt
+
+-- over 40.0: d 10.9 takes 0.4 off, d 15.0 nothing, d 10.0 counts, d 9.9 and d 9.5 do not, nor does a level below its background
+d-10-9 : correctedSide 509 400 ≡ Corrected (record { 0 = 505 })
+unfolding correctedSide correctionOf corrections rounded
 d-10-9 = refl
 
 d-15-0 : correctedSide 550 400 ≡ Corrected (record { 0 = 550 })
-unfolding correctedSide correctionOf corrections
+unfolding correctedSide correctionOf corrections rounded
 d-15-0 = refl
 
-d-16-0 : correctedSide 560 400 ≡ Corrected (record { 0 = 560 })
-unfolding correctedSide correctionOf corrections
-d-16-0 = refl
-
 d-10-0 : correctedSide 500 400 ≡ Corrected (record { 0 = 495 })
-unfolding correctedSide correctionOf corrections
+unfolding correctedSide correctionOf corrections rounded
 d-10-0 = refl
 
 d-9-9 : correctedSide 499 400 ≡ NotValid
-unfolding correctedSide correctionOf corrections
+unfolding correctedSide
 d-9-9 = refl
 
+d-9-5 : correctedSide 495 400 ≡ NotValid
+unfolding correctedSide
+d-9-5 = refl
+
 below-background : correctedSide 300 400 ≡ NotValid
-unfolding correctedSide correctionOf corrections
+unfolding correctedSide
 below-background = refl
 
 -- ---- readings

@@ -1,7 +1,8 @@
--- From a reading to the corrected level of one side (document 01, "From levels to windows", steps 1 to 3). All levels are in tenths of dB(A).
+-- From a reading to the corrected level of one side (document 01, "From levels to windows", steps 1 to 3; document 02, wish 2). All levels
+-- are in tenths of dB(A).
 use mathlib.Core.Bool.{cond}
 use mathlib.Core.List.{List, [], _∷_}
-use Prim.Native.Nat.{ℕ, _*_, _-_, _/_}
+use Prim.Native.Nat.{ℕ, _*_, _-_}
 use lib.Dec.{leb}
 use lib.Ieee.{Float, nan, inf, fin, up, down}
 use lib.ListN.{getD}
@@ -23,12 +24,13 @@ tenthsOf (fin s m e) = rounded (10 * (m * up e)) (down e)
 unfoldable pub corrections : List ℕ
 corrections = 5 ∷ 4 ∷ 3 ∷ 2 ∷ 1 ∷ 0 ∷ []
 
--- Step 2: the correction for a difference of d tenths, d at least 100. The fraction of d is dropped first; above 15 dB, past the end of
--- the table, nothing is taken off.
+-- Step 2, with wish 2: the correction for a difference of d tenths, d at least 100. It is the table's entry at the whole decibel nearest to d, a
+-- half going up; past the end of the table, nothing is taken off.
 unfoldable pub correctionOf : ℕ → ℕ
-correctionOf d = getD corrections (d / 10 - 10) 0
+correctionOf d = getD corrections (rounded d 10 - 10) 0
 
 -- Steps 2 and 3 on one side: d is the level less its background (0 for a level below it). A side counts from d 10.0 on.
+-- This is asked of d itself: 9.5, which rounds to 10, does not count.
 unfoldable pub correctedSide : ℕ → ℕ → Side
 correctedSide level background =
     let d = level - background in

@@ -1,5 +1,5 @@
-// From a reading of the meter to one side's corrected level (document 01, "The sheet", and "From levels to windows", steps 1 to 3). Only
-// this crate computes with floats; nothing is known of runs.
+// From a reading of the meter to one side's corrected level (document 01, "The sheet", and "From levels to windows", steps 1 to 3;
+// document 02, wish 2). Only this crate computes with floats; nothing is known of runs.
 use units::Tenths;
 ghost use mathlib.Core.Path.{_≡_};
 ghost use Prim.Native.Nat.{_+_, _≤_};
@@ -105,13 +105,17 @@ const CORRECTIONS: [Tenths; 6] = [
     Tenths(0),
 ];
 
-// What is taken off for a difference d.
+// What is taken off for a difference d: the table's entry at the nearest whole decibel, and nothing past its end, from 15.5 on. That is
+// asked first, since most runs are that far above the background and need no rounding.
 fn correction(d: Tenths) -> Tenths
     requires { ⌜ 100 ≤ d .0 ⌝ }
     ensures { λ r. ⌜ r .0 ≡ correctionOf (d .0) ⌝ }
 {
-    let at = (d.0 / 10 - 10) as usize;
-    if at < 6 { CORRECTIONS[at] } else { Tenths(0) }
+    if d.0 >= 155 {
+        return Tenths(0);
+    }
+    let at = (units::round(d.0 as u32, 10) - 10) as usize;
+    CORRECTIONS[at]
 }
 
 // A rounded level against its background.

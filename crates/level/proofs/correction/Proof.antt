@@ -1,17 +1,39 @@
--- `level::correction` meets its contract: the table is the definition's, and past its end there is 0. Assumes nothing.
-use mathlib.Core.Path.{sym}
+-- `level::correction` meets its contract: from 15.5 on nothing is taken off, by a law; a difference below rounds to a whole decibel of the
+-- table, which is the definition's. Assumes nothing.
+use mathlib.Core.Path.{_≡_, sym}
 use mathlib.Core.List.{List, [], _∷_}
-use Prim.Native.Nat.{_-_, _/_}
+use Prim.Native.Nat.{ℕ, _-_, _≤_, _<_}
 use native.Mathlib.Omega.{arith}
-use lib.ListN.{List·getD-eq-default, List·getD-map}
+use lib.ListN.{List·getD-map}
 use borrow.Author.Needs.{needs}
 use Rattle.units.specs.declared.Tenths.{Tenths}
+use Rattle.units.specs.Rounding.{rounded}
 use Rattle.level.specs.Level.{corrections, correctionOf}
+use Rattle.level.proofs.Corrections.{nothing-off}
 use Rattle.level.proofs.correction.Statement.{statement}
 use Rattle.level.proofs.correction.Tie as tie
 
+-- from 9.5 on, the nearest whole decibel is at least 10
+from-10 : {r d : ℕ} → r ≡ rounded d 10 → 95 ≤ d → 10 ≤ r
+unfolding rounded
+from-10 e h = omega arith
+
+-- below 15.5, it is at most 15
+to-15 : {r d : ℕ} → r ≡ rounded d 10 → d < 155 → r ≤ 15
+unfolding rounded
+to-15 e h = omega arith
+
+returns : tie.Need-returns
+returns c = sym (nothing-off (c .before .before .args .d .0) (omega arith))
+
+cast-round : tie.Need-cast-round
+cast-round c = search needs
+
+round-requires : tie.Need-round-requires
+round-requires c κs = search needs
+
 sub-at : tie.Need-sub-at
-sub-at c = search needs
+sub-at c = from-10 (c .round .ensures) (omega arith)
 
 cast-at : tie.Need-cast-at
 cast-at c = search needs
@@ -20,16 +42,14 @@ mul-result : tie.Need-mul-result
 mul-result c = search needs
 
 array-copy-out-result : tie.Need-array-copy-out-result
-array-copy-out-result c = search needs
-
-returns : tie.Need-returns
-unfolding correctionOf corrections
-returns c = sym (List·getD-map (λ (t : Tenths). t .0) (record { 0 = 5 } ∷ record { 0 = 4 } ∷ record { 0 = 3 } ∷ record { 0 = 2 } ∷ record { 0 = 1 } ∷ record { 0 = 0 } ∷ []) (c .before .before .before .args .d .0 / 10 - 10) (record { 0 = 0 }))
+array-copy-out-result c = omega (arith, to-15 (c .round .ensures) (omega arith))
 
 returns-2 : tie.Need-returns-2
 unfolding correctionOf corrections
-returns-2 c = sym (List·getD-eq-default corrections 0 {n = c .before .before .args .d .0 / 10 - 10} (omega arith))
+returns-2 c =
+    let d = c .before .before .before .before .before .args .d in
+    rw (c .before .round .ensures) (sym (List·getD-map (λ (t : Tenths). t .0) (record { 0 = 5 } ∷ record { 0 = 4 } ∷ record { 0 = 3 } ∷ record { 0 = 2 } ∷ record { 0 = 1 } ∷ record { 0 = 0 } ∷ []) (rounded (d .0) 10 - 10) (record { 0 = 0 })))
 
 pub correction-spec : {M : Type 1} → statement M
 correction-spec =
-    tie.close (tie.spec sub-at cast-at mul-result array-copy-out-result returns returns-2)
+    tie.close (tie.spec returns cast-round round-requires sub-at cast-at mul-result array-copy-out-result returns-2)
