@@ -106,7 +106,7 @@ const CORRECTIONS: [Tenths; 6] = [
 ];
 
 // What is taken off for a difference d: the table's entry at the nearest whole decibel, and nothing past its end, from 15.5 on. That is
-// asked first, since most runs are that far above the background and need no rounding.
+// asked first, since a run so far above the background needs no rounding.
 fn correction(d: Tenths) -> Tenths
     requires { ⌜ 100 ≤ d .0 ⌝ }
     ensures { λ r. ⌜ r .0 ≡ correctionOf (d .0) ⌝ }
@@ -114,7 +114,7 @@ fn correction(d: Tenths) -> Tenths
     if d.0 >= 155 {
         return Tenths(0);
     }
-    let at = (units::round(d.0 as u32, 10) - 10) as usize;
+    let at = (units::whole_decibels(d) - 10) as usize;
     CORRECTIONS[at]
 }
 

@@ -36,6 +36,10 @@ rounded-most n d m h l =
     let below : rounded n d < m + 1 = lt-of-mul-lt-mul-left (2 * d) (lt-of-le-of-lt (rounded-bounds n d h .0) (omega arith)) in
     omega arith
 
+-- nor does a number that equals the rounded one, as that of a call
+pub rounded-within : {r n d : ℕ} (m : ℕ) → r ≡ rounded n d → 0 < d → n ≤ d * m → r ≤ m
+rounded-within {r} {n} {d} m e h l = rw e (rounded-most n d m h l)
+
 -- ---- by the remainder, as `round` reckons it
 
 -- a remainder below a half goes down

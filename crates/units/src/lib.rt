@@ -25,6 +25,13 @@ pub fn round(n: u32, d: u32) -> u32
     }
 }
 
+// A level, or a difference of two, in whole decibels: the nearest, a half going up.
+pub fn whole_decibels(level: Tenths) -> u16
+    ensures { λ r. ⌜ r ≡ rounded (level .0) 10 ⌝ }
+{
+    round(level.0 as u32, 10) as u16
+}
+
 fn wide(x: u8) -> u32
     ensures { λ r. ⌜ (r ≡ x) × (r < 256) ⌝ }
 {

@@ -7,7 +7,6 @@ use units::Tenths;
 use window::Four;
 ghost use mathlib.Core.Path.{_≡_};
 ghost use Prim.Native.Nat.{_≤_, _<_};
-ghost use Rattle.units.specs.Rounding.{rounded};
 ghost use Rattle.urban.specs.declared.Chosen.the-variants.{Pair};
 ghost use Rattle.urban.specs.Urban.{Straddled, weighedLevel, basisOf, partPower, lUrbanOf, outcomeOf};
 
@@ -113,13 +112,6 @@ fn part_power(a_urban: Hundredths, a: Hundredths) -> u8
     units::round(100 * more, a.0 as u32) as u8
 }
 
-// A level in whole dB(A).
-fn whole(level: Tenths) -> u16
-    ensures { λ r. ⌜ r ≡ rounded (level .0) 10 ⌝ }
-{
-    units::round(level.0 as u32, 10) as u16
-}
-
 // L_urban and kp from W, C and a'.
 pub fn l_urban(reference: Reference, a: Hundredths, w: Tenths, c: Tenths) -> LUrban
     ensures { λ r. ⌜ r ≡ lUrbanOf reference (a .0) (w .0) (c .0) ⌝ }
@@ -127,13 +119,13 @@ pub fn l_urban(reference: Reference, a: Hundredths, w: Tenths, c: Tenths) -> LUr
     if reference.pmr < 250 {
         return LUrban {
             kp: 0,
-            level: whole(w),
+            level: units::whole_decibels(w),
         };
     }
     if w.0 < c.0 {
         return LUrban {
             kp: 100,
-            level: whole(c),
+            level: units::whole_decibels(c),
         };
     }
     let kp = part_power(reference.a_urban, a);

@@ -1,11 +1,9 @@
 -- `urban::l_urban` meets its contract, case by case. Assumes nothing.
-use mathlib.Core.Path.{_≡_}
-use Prim.Native.Nat.{ℕ, _*_, _-_, _≤_}
+use Prim.Native.Nat.{_*_, _-_, _≤_}
 use native.Mathlib.Omega.{arith}
 use borrow.Author.Needs.{needs}
 use borrow.Author.Tests.{lt-ltb, le-ltb}
-use Rattle.units.specs.Rounding.{rounded}
-use Rattle.units.proofs.Rounding.{rounded-most}
+use Rattle.units.proofs.Rounding.{rounded-within}
 use Rattle.urban.specs.Urban.{lUrbanOf}
 use Rattle.urban.proofs.PartPower.{off-most}
 use Rattle.urban.proofs.l_urban.Statement.{statement}
@@ -15,22 +13,19 @@ use Rattle.urban.proofs.l_urban.Tie as tie
 taken : (c : tie.After-part-power) → let a = c .before .before .before .before .before .before .args in c .part-power .result * (a .w .0 - a .c .0) ≤ 100 * a .w .0
 taken c = let a = c .before .before .before .before .before .before .args in rw (c .part-power .ensures) (off-most (a .reference .«a_urban» .0) (a .a .0) (a .w .0) (a .c .0))
 
-small : {r : ℕ} (n : ℕ) → r ≡ rounded n 1000 → n ≤ 65535000 → r ≤ 65535
-small n e h = rw e (rounded-most n 1000 65535 (omega arith) h)
-
-whole-requires : tie.Need-whole-requires
-whole-requires c κs = search needs
+whole-decibels-requires : tie.Need-whole-decibels-requires
+whole-decibels-requires c κs = search needs
 
 returns : tie.Need-returns
 unfolding lUrbanOf
-returns c = simp (lt-ltb _ _ (c .before .if1 .taken), c .whole .ensures)
+returns c = simp (lt-ltb _ _ (c .before .if1 .taken), c .whole-decibels .ensures)
 
-whole-requires-2 : tie.Need-whole-requires-2
-whole-requires-2 c κs = search needs
+whole-decibels-requires-2 : tie.Need-whole-decibels-requires-2
+whole-decibels-requires-2 c κs = search needs
 
 returns-2 : tie.Need-returns-2
 unfolding lUrbanOf
-returns-2 c = simp (le-ltb _ _ (c .before .before .before .before .if1 .left), lt-ltb _ _ (c .before .if2 .taken), c .whole2 .ensures)
+returns-2 c = simp (le-ltb _ _ (c .before .before .before .before .if1 .left), lt-ltb _ _ (c .before .if2 .taken), c .whole-decibels2 .ensures)
 
 part-power-requires : tie.Need-part-power-requires
 part-power-requires c κs = search needs
@@ -57,7 +52,7 @@ round-requires : tie.Need-round-requires
 round-requires c κs = search needs
 
 cast-t11 : tie.Need-cast-t11
-cast-t11 c = omega (arith, small _ (c .round .ensures) (omega arith))
+cast-t11 c = omega (arith, rounded-within 65535 (c .round .ensures) (omega arith) (omega arith))
 
 returns-3 : tie.Need-returns-3
 unfolding lUrbanOf
@@ -69,9 +64,9 @@ pub l-urban-spec : {M : Type 1} → statement M
 l-urban-spec =
     tie.close
     (tie.spec
-    whole-requires
+    whole-decibels-requires
     returns
-    whole-requires-2
+    whole-decibels-requires-2
     returns-2
     part-power-requires
     cast-off
