@@ -12,14 +12,14 @@ PAPER = dict(vars(reckon))
 
 
 @contextmanager
-def reading(changes):
+def reading(changes, module=reckon):
     """The reckoner with some of its names replaced."""
-    replaced = {name: vars(reckon)[name] for name in changes}
-    vars(reckon).update(changes)
+    replaced = {name: vars(module)[name] for name in changes}
+    vars(module).update(changes)
     try:
         yield
     finally:
-        vars(reckon).update(replaced)
+        vars(module).update(replaced)
 
 
 def edited(name, *parts):

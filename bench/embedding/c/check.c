@@ -1,7 +1,8 @@
-/* Checks what ruthimpo.h says, on the worked sheet and its line, the two files that its arguments name. */
+/* Checks what ruthimpo.h says, on the worked sheet and its line, the two files that its arguments name, and on motorcycles. */
 #define _POSIX_C_SOURCE 200809L
 #include "ruthimpo.h"
 
+#include <math.h>
 #include <pthread.h>
 #include <stdio.h>
 #include <string.h>
@@ -97,19 +98,103 @@ static void check_alignments(void) {
     }
 }
 
+/* A motorcycle by its levels and limit, with its mean and pass, or with its refusal and place. */
+struct motorcycle {
+    union {
+        float levels[4];
+        uint32_t patterns[4];
+    };
+    uint16_t limit, mean;
+    uint8_t pass;
+    enum ruthimpo_refusal refusal;
+    size_t place;
+};
+
+static const struct motorcycle motorcycles[] = {
+    {{{80.0f, 81.0f, 80.0f, 80.0f}}, 80, 317, 1, RUTHIMPO_ACCEPTED, 0},
+    {{{80.0f, 81.0f, 80.0f, 80.0f}}, 79, 317, 0, RUTHIMPO_ACCEPTED, 0},
+    {{{73.5f, 73.4f, 72.4f, 72.5f}}, 72, 288, 1, RUTHIMPO_ACCEPTED, 0},
+    {{{72.46f, 72.0f, 72.0f, 72.0f}}, 71, 285, 0, RUTHIMPO_ACCEPTED, 0}, /* 72.5, then 73 */
+    {{{72.45f, 72.0f, 72.0f, 72.0f}}, 71, 284, 1, RUTHIMPO_ACCEPTED, 0}, /* the float is below 72.45 */
+    {{{20.0f, 20.0f, 20.0f, 20.0f}}, 19, 76, 1, RUTHIMPO_ACCEPTED, 0},
+    {{{20.0f, 20.0f, 20.0f, 20.0f}}, 18, 76, 0, RUTHIMPO_ACCEPTED, 0},
+    {{{140.0f, 140.0f, 140.0f, 140.0f}}, 139, 556, 1, RUTHIMPO_ACCEPTED, 0},
+    {{{140.0f, 140.0f, 140.0f, 140.0f}}, 138, 556, 0, RUTHIMPO_ACCEPTED, 0},
+    {{{80.0f, 80.0f, 80.0f, 80.0f}}, 0, 316, 0, RUTHIMPO_ACCEPTED, 0},
+    {{{80.0f, 80.0f, 80.0f, 80.0f}}, 16384, 316, 1, RUTHIMPO_ACCEPTED, 0}, /* four times the limit is 2^16 */
+    {{{80.0f, 80.0f, 80.0f, 80.0f}}, 16384 + 78, 316, 1, RUTHIMPO_ACCEPTED, 0},
+    {{{80.0f, 80.0f, 80.0f, 80.0f}}, 32768, 316, 1, RUTHIMPO_ACCEPTED, 0},
+    {{{80.0f, 80.0f, 80.0f, 80.0f}}, 65535, 316, 1, RUTHIMPO_ACCEPTED, 0},
+    {{{80.4f, 82.4f, 80.0f, 80.0f}}, 80, 318, 1, RUTHIMPO_ACCEPTED, 0},
+    {{{80.4f, 82.5f, 80.0f, 80.0f}}, 80, 0, 0, RUTHIMPO_SIDE_FAR_APART, 1},
+    {{{83.0f, 80.0f, 80.0f, 83.0f}}, 80, 0, 0, RUTHIMPO_SIDE_FAR_APART, 1},
+    {{{80.0f, 82.4f, 82.5f, 80.0f}}, 80, 0, 0, RUTHIMPO_SIDE_FAR_APART, 2},
+    {{{140.1f, 83.0f, 80.0f, 83.0f}}, 80, 0, 0, RUTHIMPO_LEVEL_OUT_OF_RANGE, 1},
+    {{{80.0f, INFINITY, 80.0f, NAN}}, 80, 0, 0, RUTHIMPO_LEVEL_OUT_OF_RANGE, 2},
+    {{{20.0f, 140.0f, 19.999998f, 80.0f}}, 80, 0, 0, RUTHIMPO_LEVEL_OUT_OF_RANGE, 3},
+    {{{80.0f, 80.0f, 80.0f, -80.0f}}, 80, 0, 0, RUTHIMPO_LEVEL_OUT_OF_RANGE, 4},
+};
+
+/* A call whose mean, pass and place stand between poisoned ones. A refusal keeps mean and pass, and no call writes a level. */
+static void check_motorcycle(const struct motorcycle *one, const char *words, size_t at) {
+    uint32_t patterns[4];
+    uint16_t means[3], mean_poison;
+    uint8_t passes[3];
+    size_t places[3], place_poison;
+    memcpy(patterns, one->patterns, sizeof patterns);
+    memset(means, POISON, sizeof means);
+    memset(&mean_poison, POISON, sizeof mean_poison);
+    memset(passes, POISON, sizeof passes);
+    memset(places, POISON, sizeof places);
+    memset(&place_poison, POISON, sizeof place_poison);
+    uint32_t refusal = ruthimpo_motorcycle(patterns, one->limit, &means[1], &passes[1], &places[1]);
+    int is_accepted = one->refusal == RUTHIMPO_ACCEPTED;
+    check(refusal == one->refusal && places[1] == one->place, words, at);
+    check(means[1] == (is_accepted ? one->mean : mean_poison), "mean of a motorcycle", at);
+    check(passes[1] == (is_accepted ? one->pass : POISON), "pass of a motorcycle", at);
+    check(means[0] == mean_poison && means[2] == mean_poison, "what stands beside the mean", at);
+    check(passes[0] == POISON && passes[2] == POISON, "what stands beside the pass", at);
+    check(places[0] == place_poison && places[2] == place_poison, "what stands beside the place", at);
+    check(memcmp(patterns, one->patterns, sizeof patterns) == 0, "levels of a motorcycle", at);
+}
+
+/* No levels: beside 20.0 and 140.0, infinities, quiet and signalling NaNs, zeros, subnormals, with a minus, the largest. */
+static const uint32_t no_levels[] = {
+    0x419FFFFF, 0x430C0001, 0x7F800000, 0xFF800000, 0x7FC00000, 0xFFC00000, 0x7F800001, 0xFFBFFFFF, 0x7FFFFFFF,
+    0xFFFFFFFF, 0x00000000, 0x80000000, 0x00000001, 0x807FFFFF, 0x00800000, 0xC2A00000, 0xC1A00000, 0x7F7FFFFF,
+};
+
+static void check_motorcycles(void) {
+    for (size_t n = 0; n < sizeof motorcycles / sizeof *motorcycles; n++) {
+        check_motorcycle(&motorcycles[n], "refusal and place of motorcycle", n);
+    }
+    for (size_t number = 1; number <= 4; number++) {
+        for (size_t n = 0; n < sizeof no_levels / sizeof *no_levels; n++) {
+            struct motorcycle one = {{{20.0f, 140.0f, 140.0f, 20.0f}}, 80, 0, 0, RUTHIMPO_LEVEL_OUT_OF_RANGE, number};
+            one.patterns[number - 1] = no_levels[n];
+            check_motorcycle(&one, "refusal and place of no level", n);
+        }
+    }
+}
+
 /* What a thread calls for: so many bytes of the shared sheet, and the line that they have. */
 struct task {
     size_t bytes, length;
     const uint8_t *line;
 };
 
-/* Answers NULL if a call gives another line. */
-static void *lines_of_a_thread(void *argument) {
+/* Answers NULL if a call gives another line, or another mean of a motorcycle. */
+static void *calls_of_a_thread(void *argument) {
+    static const uint32_t levels[4] = {0x42A00000, 0x42A20000, 0x42A00000, 0x42A00000}; /* 80.0, and 81.0 once */
     const struct task *task = argument;
     for (int call = 0; call < CALLS; call++) {
-        uint8_t out[RUTHIMPO_LINE_BYTES];
-        size_t length = ruthimpo_line(worked, task->bytes, out, sizeof out);
+        uint8_t out[RUTHIMPO_LINE_BYTES], pass = POISON;
+        uint16_t mean = POISON;
+        size_t place, length = ruthimpo_line(worked, task->bytes, out, sizeof out);
         if (length != task->length || memcmp(out, task->line, length) != 0) {
+            return NULL;
+        }
+        if (ruthimpo_motorcycle(levels, 80, &mean, &pass, &place) != 0 || mean != 317 || pass != 1) {
             return NULL;
         }
     }
@@ -124,11 +209,11 @@ static void check_threads(void) {
     pthread_attr_init(&small);
     check(pthread_attr_setstacksize(&small, 16384) == 0, "a stack of 16 KB", 0);
     for (size_t n = 0; n < THREADS; n++) {
-        check(pthread_create(&threads[n], &small, lines_of_a_thread, &tasks[n % 2]) == 0, "start of thread", n);
+        check(pthread_create(&threads[n], &small, calls_of_a_thread, &tasks[n % 2]) == 0, "start of thread", n);
     }
     for (size_t n = 0; n < THREADS; n++) {
         void *task = NULL;
-        check(pthread_join(threads[n], &task) == 0 && task != NULL, "lines of thread", n);
+        check(pthread_join(threads[n], &task) == 0 && task != NULL, "calls of thread", n);
     }
 }
 
@@ -154,6 +239,7 @@ int main(int count, char **names) {
     check_null();
     check_line_buffers();
     check_alignments();
+    check_motorcycles();
     check_threads();
     printf("%u of %u checks of ruthimpo.h hold\n", checks - differing, checks);
     return differing == 0 ? 0 : 1;

@@ -1,4 +1,4 @@
-/* The proved evaluation of pass-by sheets, for programs in C on x86-64 Linux.
+/* The proved evaluation of pass-by sheets and verdict on motorcycles, for programs in C on x86-64 Linux.
  *
  * `rt staticlib embed` writes target/staticlib/libembed.a. A program links it, and needs nothing else for it:
  *
@@ -9,12 +9,13 @@
  * Threads: the library has no state. It keeps nothing between calls and takes no memory but the stack, for which a thread
  * with 16 KB has room. Any number of threads may call it at once, each with buffers of its own; they may share a sheet.
  *
- * Pointers: bytes may lie at any address, and a pointer to them may be NULL if the length with it is 0. `place` points to a
- * size_t, aligned as any other, and may not be NULL. The caller sees to it that the bytes behind each pointer are as many as
- * it says and do not overlap, and that nobody else writes them during the call.
+ * Pointers: bytes may lie at any address, and a pointer to them may be NULL if the length with it is 0. A pointer without a
+ * length, such as `place`, may not be NULL and is aligned as any other of its type. The caller sees to it that the bytes
+ * behind each pointer are as many as it says and do not overlap, and that nobody else writes them during the call.
  *
- * Places: records count from 0, and the bytes of a record are those from 32 * place on. The place of a gear is its number.
- * If a refusal names neither, its place is 0.
+ * Places: records count from 0, and the bytes of a record are those from 32 * place on. The place of a gear is its number,
+ * that of a motorcycle's level its number, 1 to 4, and that of its left side 1, of its right side 2. If a refusal names none
+ * of these, its place is 0.
  */
 #ifndef RUTHIMPO_H
 #define RUTHIMPO_H
@@ -30,20 +31,23 @@ extern "C" {
 #define RUTHIMPO_RESULT_BYTES 32
 #define RUTHIMPO_LINE_BYTES 276
 
-/* What ruthimpo_evaluate answers: acceptance, or the number of a refusal (document 01, "Refusals and what remains"). */
+/* Acceptance, or the number of a refusal. ruthimpo_evaluate answers 0 to 10 (document 01, "Refusals and what remains"),
+ * ruthimpo_motorcycle 0, 22 or 23 (document 02, wish 14). */
 enum ruthimpo_refusal {
     RUTHIMPO_ACCEPTED = 0,
-    RUTHIMPO_SHORT_BUFFER = 1,      /* the result buffer has under 32 bytes */
-    RUTHIMPO_WRONG_SIZE = 2,        /* the sheet has no byte, more than 32,768, or a record cut short */
-    RUTHIMPO_NO_VEHICLE = 3,        /* the first record is no vehicle record */
-    RUTHIMPO_NO_CLOSING = 4,        /* the last record, its place, does not close the sheet or counts another number of runs */
-    RUTHIMPO_BROKEN_RECORD = 5,     /* the place is the lowest record that breaks the layout */
-    RUTHIMPO_PMR_OUT_OF_RANGE = 6,  /* PMR is under 5.0 or over 600.0 */
-    RUTHIMPO_NO_WINDOW = 7,         /* the place is the lowest gear with an acceleration run and no window;
-                                       0 if there is no acceleration run */
-    RUTHIMPO_NOT_FALLING = 8,       /* the place is the lower gear of the first neighbours whose accelerations do not fall */
-    RUTHIMPO_NO_RULE = 9,           /* every gear is dropped, or none of the rules chooses one */
-    RUTHIMPO_NO_CONSTANT_SPEED = 10 /* the place is the lowest chosen gear without a constant-speed window */
+    RUTHIMPO_SHORT_BUFFER = 1,        /* the result buffer has under 32 bytes */
+    RUTHIMPO_WRONG_SIZE = 2,          /* the sheet has no byte, more than 32,768, or a record cut short */
+    RUTHIMPO_NO_VEHICLE = 3,          /* the first record is no vehicle record */
+    RUTHIMPO_NO_CLOSING = 4,          /* the last record, its place, does not close the sheet or counts another number of runs */
+    RUTHIMPO_BROKEN_RECORD = 5,       /* the place is the lowest record that breaks the layout */
+    RUTHIMPO_PMR_OUT_OF_RANGE = 6,    /* PMR is under 5.0 or over 600.0 */
+    RUTHIMPO_NO_WINDOW = 7,           /* the place is the lowest gear with an acceleration run and no window;
+                                         0 if there is no acceleration run */
+    RUTHIMPO_NOT_FALLING = 8,         /* the place is the lower gear of the first neighbours whose accelerations do not fall */
+    RUTHIMPO_NO_RULE = 9,             /* every gear is dropped, or none of the rules chooses one */
+    RUTHIMPO_NO_CONSTANT_SPEED = 10,  /* the place is the lowest chosen gear without a constant-speed window */
+    RUTHIMPO_LEVEL_OUT_OF_RANGE = 22, /* the place is the number of the first level that is not finite or not from 20.0 to 140.0 */
+    RUTHIMPO_SIDE_FAR_APART = 23      /* the place is the first side whose two levels, in whole dB, differ by more than 2 */
 };
 
 /* Places of the result record (document 01, "L_urban"). From W on they are 16-bit numbers, low byte first. */
@@ -74,6 +78,20 @@ uint32_t ruthimpo_evaluate(const uint8_t *sheet, size_t sheet_bytes, uint8_t *re
 /* Puts the line of the evaluation program into `out`, with its line feed and no zero after it, and answers its length;
  * the bytes after the line keep what they held. If `out` has under 276 bytes, answers 0 and leaves all of `out` as it was. */
 size_t ruthimpo_line(const uint8_t *sheet, size_t sheet_bytes, uint8_t *out, size_t out_bytes);
+
+/* Judges the four levels of a motorcycle against a limit in whole dB.
+ *
+ * `levels` has the bit patterns of four 32-bit floats, 1 and 2 of the left side, 3 and 4 of the right. Any pattern may stand
+ * there, and `limit` may be any number. A program with floats copies them:
+ *
+ *     float measured[4] = {80.0f, 81.0f, 80.0f, 80.0f};
+ *     uint32_t levels[4];
+ *     memcpy(levels, measured, sizeof levels);
+ *
+ * Answers 0 and puts the mean in quarters of a dB, 76 to 556, into `mean`, and 1 into `pass` if it is not above the limit,
+ * else 0. Or answers the number of the refusal, 22 or 23, and leaves `mean` and `pass` as they were; the place of the refusal
+ * goes to `place`. On success `place` is 0. */
+uint32_t ruthimpo_motorcycle(const uint32_t levels[4], uint16_t limit, uint16_t *mean, uint8_t *pass, size_t *place);
 
 #ifdef __cplusplus
 }

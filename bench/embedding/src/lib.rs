@@ -1,5 +1,6 @@
-//! The proved evaluation of pass-by sheets, for Rust programs on x86-64 Linux: safe functions over the static library of the
-//! crate `embed`, which `rt staticlib embed` writes. The library has no state, so any number of threads may call it at once.
+//! The proved evaluation of pass-by sheets and verdict on motorcycles, for Rust programs on x86-64 Linux: safe functions over the
+//! static library of the crate `embed`, which `rt staticlib embed` writes. The library has no state, so any number of threads
+//! may call it at once.
 
 use std::fmt;
 
@@ -19,9 +20,13 @@ extern "C" {
         place: *mut usize,
     ) -> u32;
     fn ruthimpo_line(sheet: *const u8, sheet_bytes: usize, out: *mut u8, out_bytes: usize) -> usize;
+    /// The verdict on a motorcycle as C has it: of four patterns of floats, 0 or the number of the refusal, and its place.
+    pub fn ruthimpo_motorcycle(levels: *const u32, limit: u16, mean: *mut u16, pass: *mut u8, place: *mut usize)
+        -> u32;
 }
 
-/// A refusal of document 01: its number, and the record (from 0) or gear that it names, or 0 if it names neither.
+/// A refusal of document 01 or of document 02, wish 14: its number, and the record (from 0), the gear, the level (from 1) or
+/// the side (1 left, 2 right) that it names, or 0 if it names none.
 #[derive(Clone, Copy, Debug, PartialEq, Eq)]
 pub struct Refusal {
     pub number: u32,
@@ -40,6 +45,8 @@ impl Refusal {
     pub const NOT_FALLING: u32 = 8;
     pub const NO_RULE: u32 = 9;
     pub const NO_CONSTANT_SPEED: u32 = 10;
+    pub const LEVEL_OUT_OF_RANGE: u32 = 22;
+    pub const SIDE_FAR_APART: u32 = 23;
 }
 
 impl fmt::Display for Refusal {
@@ -70,11 +77,30 @@ pub fn line(sheet: &[u8]) -> String {
     out[..length].iter().map(|&byte| char::from(byte)).collect()
 }
 
+/// The mean of a motorcycle's four levels in quarters of a dB, and whether it passes.
+#[derive(Clone, Copy, Debug, PartialEq, Eq)]
+pub struct MotorcycleMean {
+    pub quarters: u16,
+    pub passes: bool,
+}
+
+/// Judges the four levels of a motorcycle, 1 and 2 of the left side, 3 and 4 of the right, against a limit in whole dB.
+pub fn motorcycle(levels: [f32; 4], limit: u16) -> Result<MotorcycleMean, Refusal> {
+    let levels = levels.map(f32::to_bits);
+    let (mut quarters, mut pass, mut place) = (0, 0, 0);
+    // SAFETY: the pointers are those of live places of their own, aligned by their types.
+    let number = unsafe { ruthimpo_motorcycle(levels.as_ptr(), limit, &mut quarters, &mut pass, &mut place) };
+    match number {
+        0 => Ok(MotorcycleMean { quarters, passes: pass == 1 }),
+        _ => Err(Refusal { number, place }),
+    }
+}
+
 #[cfg(test)]
 mod tests {
     use super::*;
 
-    const NAMES: [(&str, u32); 10] = [
+    const NAMES: [(&str, u32); 12] = [
         ("SHORT_BUFFER", Refusal::SHORT_BUFFER),
         ("WRONG_SIZE", Refusal::WRONG_SIZE),
         ("NO_VEHICLE", Refusal::NO_VEHICLE),
@@ -85,6 +111,8 @@ mod tests {
         ("NOT_FALLING", Refusal::NOT_FALLING),
         ("NO_RULE", Refusal::NO_RULE),
         ("NO_CONSTANT_SPEED", Refusal::NO_CONSTANT_SPEED),
+        ("LEVEL_OUT_OF_RANGE", Refusal::LEVEL_OUT_OF_RANGE),
+        ("SIDE_FAR_APART", Refusal::SIDE_FAR_APART),
     ];
 
     #[test]
@@ -103,5 +131,20 @@ mod tests {
         assert_eq!(evaluate(&[], &mut []), refused(Refusal::SHORT_BUFFER));
         assert_eq!(evaluate(&[], &mut [0; RESULT_BYTES]), refused(Refusal::WRONG_SIZE));
         assert_eq!(line(&[]), "REFUSED 2 0\n");
+    }
+
+    #[test]
+    fn a_motorcycle_has_a_mean_or_a_refusal() {
+        let mean = |quarters, passes| Ok(MotorcycleMean { quarters, passes });
+        let refused = |number, place| Err(Refusal { number, place });
+        assert_eq!(motorcycle([80.0, 81.0, 80.0, 80.0], 80), mean(317, true));
+        assert_eq!(motorcycle([80.0, 81.0, 80.0, 80.0], 79), mean(317, false));
+        // 72.46 is 72.5, then 73; 72.45 as a float is below it.
+        assert_eq!(motorcycle([72.46, 72.0, 72.0, 72.0], 71), mean(285, false));
+        assert_eq!(motorcycle([72.45, 72.0, 72.0, 72.0], 71), mean(284, true));
+        assert_eq!(motorcycle([80.0, f32::INFINITY, 80.0, f32::NAN], 80), refused(Refusal::LEVEL_OUT_OF_RANGE, 2));
+        assert_eq!(motorcycle([20.0, 140.0, 20.0_f32.next_down(), 80.0], 80), refused(Refusal::LEVEL_OUT_OF_RANGE, 3));
+        assert_eq!(motorcycle([80.0, 83.0, 80.0, 83.0], 80), refused(Refusal::SIDE_FAR_APART, 1));
+        assert_eq!(motorcycle([80.0, 82.4, 80.0, 82.5], 80), refused(Refusal::SIDE_FAR_APART, 2));
     }
 }

@@ -1,9 +1,12 @@
-//! The evaluation of a pass-by sheet in plain Rust, written from documents 01 and 02.
+//! The evaluation of a pass-by sheet and of a motorcycle in plain Rust, written from documents 01, 02 and 003.
 
 mod gears;
+mod motorcycle;
 pub mod reference;
 mod sheet;
 mod window;
+
+pub use motorcycle::{motorcycle, Mean};
 
 use gears::{check_falling, choose, Choice, Gear};
 use reference::{a_ref, a_urban, CONSTANT_SPEED_PMR};

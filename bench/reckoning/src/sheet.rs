@@ -132,15 +132,20 @@ fn read_reading(kind: u8, float: &[u8]) -> Option<Reading> {
     let level = f32::from_le_bytes([float[0], float[1], float[2], float[3]]);
     match kind {
         0 => are_zero(float).then_some(Reading::Absent),
-        1 | 2 if !(20.0..=140.0).contains(&level) => None,
+        1 | 2 if !is_level(level) => None,
         1 => Some(Reading::Level(tenths(level))),
         2 => Some(Reading::Overload),
         _ => None,
     }
 }
 
+/// Whether a float is from 20.0 to 140.0, which no NaN is.
+pub fn is_level(float: f32) -> bool {
+    (20.0..=140.0).contains(&float)
+}
+
 /// Step 1. A float from 20 to 140 is a whole number of 2^-19, so the product below is exact.
-fn tenths(level: f32) -> i32 {
+pub fn tenths(level: f32) -> i32 {
     let units = (f64::from(level) * f64::from(1 << 19)) as u32;
     rounded(10 * units, 1 << 19) as i32
 }

@@ -1,6 +1,7 @@
-//! What the differential run and the speed table share: sheets, and a fast evaluation in Rust.
+//! What the differential run and the speed table share: sheets, fours of levels, and a fast evaluation in Rust.
 
 pub mod changes;
+pub mod fours;
 pub mod random;
 pub mod sessions;
 pub mod sheets;

@@ -1,5 +1,5 @@
 // From a reading of the meter to one side's corrected level (document 01, "The sheet", and "From levels to windows", steps 1 to 3;
-// document 02, wish 2). Only this crate computes with floats; nothing is known of runs.
+// document 02, wish 2). Floats are rounded and compared here alone; nothing is known of runs.
 use units::Tenths;
 ghost use mathlib.Core.Path.{_≡_};
 ghost use Prim.Native.Nat.{_+_, _≤_};

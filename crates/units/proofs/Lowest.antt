@@ -8,7 +8,7 @@ use native.Mathlib.Numerals.{add-one}
 use native.Mathlib.Omega.{arith}
 use lib.Dec.{T, leb}
 use borrow.Author.Tests.{leb-true, leb-false}
-use Rattle.units.specs.Tests.{lowest}
+use Rattle.units.specs.Tests.{lowest, FirstOf, NoneOf}
 
 module _ (test : ℕ → Bool) where
   -- ---- one step
@@ -106,6 +106,20 @@ module _ (test : ℕ → Bool) where
           by false e =
               let h = leb-false y x e in
               absurd (clash x (p .passes (lt-of-lt-of-le h (q .most))) (q .before x (p .least) h))
+
+  -- ---- the first number that passes, and that none does, are told by it
+
+  pub first-is-lowest : (count n r : ℕ) → FirstOf test count n r → lowest test count n ≡ r
+  first-is-lowest count n r f = lowest-is count n r (record { least = f .least; most = omega (arith, f .most); before = f .before; passes = λ h. f .holds })
+
+  pub lowest-is-first : (count n : ℕ) → lowest test count n < n + count → FirstOf test count n (lowest test count n)
+  lowest-is-first count n h = let l = found count n in record { least = l .least; most = h; holds = l .passes h; before = l .before }
+
+  pub none-by-lowest : (count n : ℕ) → NoneOf test count n → lowest test count n ≡ n + count
+  none-by-lowest count n none = lowest-is count n (n + count) (record { least = omega arith; most = omega arith; before = none; passes = λ h. absurd (omega arith) })
+
+  pub lowest-by-none : (count n : ℕ) → n + count ≤ lowest test count n → NoneOf test count n
+  lowest-by-none count n h m l u = found count n .before m l (omega arith)
 
   -- the number that alone passes is the lowest that does
   pub lowest-alone : (N : ℕ) → T (test N) → ((M : ℕ) → T (test M) → M ≡ N) → (count n : ℕ) → n ≤ N → N < n + count → lowest test count n ≡ N

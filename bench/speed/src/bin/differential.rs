@@ -1,11 +1,13 @@
-//! Compares the proved evaluation with both evaluations in Rust on random and damaged sheets.
+//! Compares the proved evaluation with both evaluations in Rust on random and damaged sheets, and that of motorcycles with
+//! one in Rust on as many random fours of levels.
 //!
 //!     differential SHEETS COUNT [SEED]     SHEETS is the file of the corpus
 //!
 //! Each result buffer has bytes that an evaluation must keep: all of them on a refusal, those from 32 on on success.
-//! The sheet stays too.
+//! The sheet stays too. So do a motorcycle's levels, on a refusal its mean and pass, and what stands beside these.
 
 use speed::changes::any_sheet;
+use speed::fours::{any_four, Four};
 use speed::random::Random;
 use speed::straight;
 use std::collections::BTreeMap;
@@ -70,18 +72,11 @@ fn fault(sheet: &[u8], size: usize) -> Result<Given, String> {
     }
 }
 
-fn main() -> ExitCode {
-    let arguments: Vec<String> = env::args().skip(1).collect();
-    let [path, count, seed @ ..] = &arguments[..] else {
-        eprintln!("usage: differential SHEETS COUNT [SEED]");
-        return ExitCode::FAILURE;
-    };
-    let corpus = corpus(path);
-    let count: usize = count.parse().expect("COUNT is a number");
-    let mut random = Random::new(seed.first().map_or(1, |seed| seed.parse().expect("SEED is a number")));
+/// Compares so many sheets, and prints how often each answer came up; whether all agree and each answer did.
+fn compare_sheets(random: &mut Random, corpus: &[Vec<u8>], count: usize) -> bool {
     let mut answers: BTreeMap<(u32, u8), usize> = BTreeMap::new();
     for at in 0..count {
-        let sheet = any_sheet(&mut random, &corpus);
+        let sheet = any_sheet(random, corpus);
         let size = if random.chance(5) { random.below(32) } else { 32 + random.below(40) };
         let before = sheet.clone();
         let found = fault(&sheet, size);
@@ -93,7 +88,7 @@ fn main() -> ExitCode {
             }
             Err(words) => {
                 println!("sheet {at}, {} bytes, a buffer of {size}: {words}", sheet.len());
-                return ExitCode::FAILURE;
+                return false;
             }
         }
     }
@@ -102,9 +97,83 @@ fn main() -> ExitCode {
         println!("{name:<12}{found:>9}");
     }
     println!("{count} sheets: the proved evaluation and two in Rust gave the same answers and buffers");
-    let all = answers.len() == 15;
     println!("{} of 15 answers came up", answers.len());
-    if all {
+    answers.len() == 15
+}
+
+/// What a call on a motorcycle gives: 0 or a refusal's number, its place, the levels, and mean and pass between poisoned ones.
+#[derive(PartialEq, Eq, Debug)]
+struct Judged {
+    number: u32,
+    place: usize,
+    levels: [u32; 4],
+    means: [u16; 3],
+    passes: [u8; 3],
+}
+
+impl Judged {
+    fn poisoned(four: &Four) -> Judged {
+        Judged { number: 0, place: 0, levels: four.levels, means: [0xA5A5; 3], passes: [POISON; 3] }
+    }
+
+    fn by_the_library(four: &Four) -> Judged {
+        let mut given = Judged { place: usize::MAX, ..Judged::poisoned(four) };
+        // A pointer that may write, so that levels which were written are seen.
+        let levels = given.levels.as_mut_ptr();
+        let (mean, pass) = (&mut given.means[1], &mut given.passes[1]);
+        // SAFETY: the pointers are those of live places of their own, aligned by their types.
+        given.number = unsafe { ruthimpo::ruthimpo_motorcycle(levels, four.limit, mean, pass, &mut given.place) };
+        given
+    }
+
+    fn by_the_reckoning(four: &Four) -> Judged {
+        let mut given = Judged::poisoned(four);
+        match reckoning::motorcycle(four.levels.map(f32::from_bits), four.limit) {
+            Ok(mean) => (given.means[1], given.passes[1]) = (mean.quarters, mean.passes.into()),
+            Err((number, place)) => (given.number, given.place) = (number, place as usize),
+        }
+        given
+    }
+
+    fn name(&self) -> String {
+        match (self.number, self.passes[1]) {
+            (0, 1) => "pass".into(),
+            (0, _) => "fail".into(),
+            (number, _) => format!("refusal {number} at {}", self.place),
+        }
+    }
+}
+
+/// Compares so many motorcycles, as `compare_sheets` does.
+fn compare_motorcycles(random: &mut Random, count: usize) -> bool {
+    let mut answers: BTreeMap<String, usize> = BTreeMap::new();
+    for at in 0..count {
+        let four = any_four(random);
+        let (ours, reckoned) = (Judged::by_the_library(&four), Judged::by_the_reckoning(&four));
+        if ours != reckoned {
+            println!("motorcycle {at}, {four:?}: ours {ours:?}, reckoning {reckoned:?}");
+            return false;
+        }
+        *answers.entry(ours.name()).or_default() += 1;
+    }
+    for (name, found) in &answers {
+        println!("{name:<15}{found:>9}");
+    }
+    println!("{count} motorcycles: the proved evaluation and one in Rust gave the same answers");
+    println!("{} of 8 answers came up", answers.len());
+    answers.len() == 8
+}
+
+fn main() -> ExitCode {
+    let arguments: Vec<String> = env::args().skip(1).collect();
+    let [path, count, seed @ ..] = &arguments[..] else {
+        eprintln!("usage: differential SHEETS COUNT [SEED]");
+        return ExitCode::FAILURE;
+    };
+    let corpus = corpus(path);
+    let count: usize = count.parse().expect("COUNT is a number");
+    let mut random = Random::new(seed.first().map_or(1, |seed| seed.parse().expect("SEED is a number")));
+    if compare_sheets(&mut random, &corpus, count) && compare_motorcycles(&mut random, count) {
         ExitCode::SUCCESS
     } else {
         ExitCode::FAILURE
