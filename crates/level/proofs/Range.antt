@@ -67,10 +67,14 @@ high-decides (fin false m e) h = rw (sym (at-least m e) ∙ h) (at-most m e)
 
 -- ---- patterns
 
+-- which patterns are a NaN's
+pub nan-pattern : (b : ℕ) → 0x7f80_0000 < b % 0x8000_0000 → isNan (ofBits binary32 b) ≡ true
+nan-pattern b h = sym (nanBits-is binary32 b) ∙ nanBits-above binary32 b ∙ lt-ltb 0x7f80_0000 (b % 0x8000_0000) h
+
 -- the pattern of a NaN is of no level
 pub nan-out : (b : ℕ) → 0x7f80_0000 < b % 0x8000_0000 → inRange (ofBits binary32 b) ≡ false
 unfolding isNan inRange
-nan-out b h = by (ofBits binary32 b) (sym (nanBits-is binary32 b) ∙ nanBits-above binary32 b ∙ lt-ltb 0x7f80_0000 (b % 0x8000_0000) h)
+nan-out b h = by (ofBits binary32 b) (nan-pattern b h)
   where
     by : (x : Float) → isNan x ≡ true → inRange x ≡ false
     by nan e = refl

@@ -11,7 +11,7 @@ use Rattle.motorcycle.specs.declared.Levels.{Levels}
 use Rattle.motorcycle.specs.declared.Quarters.{Quarters}
 use Rattle.motorcycle.specs.declared.Verdict.{Verdict}
 use Rattle.motorcycle.specs.declared.Verdict.the-variants.{Judged, LevelOutOfRange, SideFarApart}
-use Rattle.motorcycle.specs.Verdict.{outside, sideFarApart, firstOutside, firstFarApart, quartersOf, verdictOf, verdictNumber}
+use Rattle.motorcycle.specs.Verdict.{outside, sideFarApart, firstOutside, firstFarApart, verdictOf, verdictNumber}
 use Rattle.motorcycle.specs.Causes.{Cause}
 
 -- ---- what the numbers of the definition say of the four levels and the two sides

@@ -1,10 +1,10 @@
 -- The whole decibels of a level in range, and the mean of four: how large they are, and that neither falls where a level rises. Assumes nothing.
 use mathlib.Core.Path.{_≡_, sym, _∙_}
 use mathlib.Core.Bool.{Bool, true, false, not, true≢false}
-use Prim.Native.Nat.{ℕ, _+_, _*_, _≤_, _<_}
+use Prim.Native.Nat.{ℕ, _*_, _≤_, _<_}
 use native.Mathlib.Nat.{le-trans}
 use native.Mathlib.Omega.{arith}
-use lib.Dec.{T, leb}
+use lib.Dec.{T}
 use lib.Ieee.{Float, lt}
 use borrow.Author.Tests.{leb-true, le-leb}
 use Rattle.units.specs.Rounding.{rounded}

@@ -1,7 +1,7 @@
 -- The verdict on the four levels of a motorcycle (document 02, wish 14; document 003, annex 3, 1.5), in the order in which it is reached. The range
 -- and the tenths of a level are those of a sheet, and the rounding is the one of every rule.
 use mathlib.Core.Bool.{Bool, cond, not, _||_}
-use mathlib.Core.List.{List, [], _∷_}
+use mathlib.Core.List.{[], _∷_}
 use Prim.Native.Nat.{ℕ, _+_, _*_, _-_}
 use lib.Dec.{leb, ltb}
 use lib.Ieee.{Float, nan}

@@ -1,6 +1,6 @@
 -- `motorcycle::first_outside` meets its contract: the levels are asked one by one. Assumes nothing.
 use mathlib.Core.Path.{_≡_, sym, ap, _∙_}
-use mathlib.Core.Bool.{Bool, true, false, not}
+use mathlib.Core.Bool.{Bool, false, not}
 use Prim.Native.Nat.{ℕ}
 use borrow.Author.Needs.{needs}
 use Rattle.units.specs.Tests.{lowest}

@@ -1,16 +1,13 @@
 -- `motorcycle::float_of` meets its contract: 0 / 0 is a NaN, and so is the float of every pattern of one. Assumes nothing.
-use mathlib.Core.Path.{_≡_, refl, sym, _∙_}
-use mathlib.Core.Bool.{true, false, false≢true}
-use Prim.Native.Nat.{ℕ, _%_, _<_}
+use mathlib.Core.Path.{_≡_, refl, _∙_}
+use mathlib.Core.Bool.{true, false≢true}
 use lib.Ieee.{Float, nan, inf, fin, binary32, div, ofBits, isNan}
-use lib.Ieee.Bits.{nanBits-is, nanBits-above}
-use borrow.Author.Tests.{lt-ltb}
-use Rattle.level.proofs.Range.{no-nan}
+use borrow.Author.Needs.{needs}
+use Rattle.level.proofs.Range.{nan-pattern, no-nan}
 use Rattle.motorcycle.proofs.float_of.Statement.{statement}
 use Rattle.motorcycle.proofs.float_of.Tie as tie
-use borrow.Author.Needs.{needs}
 
--- a float that is a NaN is the one NaN
+-- there is one NaN
 one-nan : (x : Float) → isNan x ≡ true → nan ≡ x
 unfolding isNan
 one-nan nan e = refl
@@ -22,9 +19,7 @@ unfolding div ofBits
 made = refl
 
 returns : tie.Need-returns
-returns c =
-    let p = c .before .args .pattern in
-    made ∙ one-nan (ofBits binary32 p) (sym (nanBits-is binary32 p) ∙ nanBits-above binary32 p ∙ lt-ltb 0x7f80_0000 (p % 0x8000_0000) (c .if1 .taken))
+returns c = made ∙ one-nan _ (nan-pattern _ (c .if1 .taken))
 
 float-from-bits-result : tie.Need-float-from-bits-result
 float-from-bits-result c = rw (no-nan _ (c .if1 .left)) tt

@@ -1,5 +1,4 @@
 -- `motorcycle::levels_of` meets its contract: each level is the float of its pattern. Assumes nothing.
-use mathlib.Core.Path.{_≡_}
 use borrow.Author.Needs.{needs}
 use Rattle.motorcycle.specs.Patterns.{levelsOf}
 use Rattle.motorcycle.proofs.levels_of.Statement.{statement}
