@@ -19,7 +19,7 @@ from collections import Counter
 from damage import damaged_sheets, raised
 from examples import example_sheets
 from groups import GROUPS, random_session
-from make import Random, beside_starts
+from make import Random, beside_starts, of_groups
 from reckon import Refused, chosen_records, excess, is_close, line, reckon, records_of, rise
 from window_groups import rising_at_steps
 
@@ -31,11 +31,8 @@ PAIRS_OF_A_SHEET, MORE_SESSIONS = 8, 2000  # for demand 3
 
 
 def corpus():
-    """Each sheet with the name of its group. Each group has a pseudo-random source of its own, by its name."""
-    for group in GROUPS:
-        seed = SEED + int.from_bytes(group.__name__.encode(), "little")
-        for sheet in group(Random(seed)):
-            yield group.__name__, sheet
+    """Each sheet with the name of its group."""
+    return of_groups(GROUPS, SEED)
 
 
 def packed(sheets):
@@ -79,6 +76,30 @@ def check(directory, files):
     return same
 
 
+def command(arguments, words, made, others):
+    """Does --write DIR or --check DIR with the files that `made` makes, or one of the others; prints `words` if it is none."""
+    if len(arguments) == 1 and arguments[0] in others:
+        return others[arguments[0]]()
+    if len(arguments) == 2 and arguments[0] == "--write":
+        write(arguments[1], made())
+        return True
+    if len(arguments) == 2 and arguments[0] == "--check":
+        return check(arguments[1], made())
+    print(words, file=sys.stderr)
+    return False
+
+
+def print_groups(found, answers):
+    """Prints how often each answer comes up, by group and in all; returns the totals. `found` has pairs of a group and an answer."""
+    groups, totals = {}, Counter()
+    for name, answer in found:
+        groups.setdefault(name, Counter())[answer] += 1
+        totals[answer] += 1
+    for name, counts in (*groups.items(), ("all", totals)):
+        print(f"{name:<28}{counts.total():>6}  " + ", ".join(f"{answer} {counts[answer]}" for answer in answers if counts[answer]))
+    return totals
+
+
 def outcome(text):
     """A rule or a refusal, from a line."""
     word, number = text.split()[:2]
@@ -101,11 +122,8 @@ OUTCOMES = [f"rule {n}" for n in range(1, 6)] + [f"refusal {n}" for n in range(2
 def spread():
     """Prints the spread; returns whether it is wide enough."""
     answers = [(group, line(sheet), sheet) for group, sheet in corpus()]
-    found = [(group, outcome(text), len(sheet)) for group, text, sheet in answers]
-    totals = Counter(result for _, result, _ in found)
-    print(f"{len(found)} sheets, {sum(length for *_, length in found)} bytes")
-    for result in OUTCOMES:
-        print(f"  {result:<11}{totals[result]:>5}")
+    print(f"{len(answers)} sheets, {sum(len(sheet) for *_, sheet in answers)} bytes\n\nby group")
+    totals = print_groups([(group, outcome(text)) for group, text, _ in answers], OUTCOMES)
     print("\nof them")
     for name, holds in FEATURES.items():
         totals[name] = sum(holds([int(word) for word in text.split()[1:]], sheet) for _, text, sheet in answers)
@@ -113,12 +131,7 @@ def spread():
     PMRs = {int(text.split()[11]) for _, text, _ in answers if text.startswith("OK")}
     met = [q in PMRs for q in beside_starts()]
     print(f"  {met.count(True)} of the {len(met)} PMRs at and before the starts of a_urban and a_ref")
-    print("\nby group")
-    for group in GROUPS:
-        counts = Counter(result for name, result, _ in found if name == group.__name__)
-        shown = ", ".join(f"{result} {counts[result]}" for result in OUTCOMES if counts[result])
-        print(f"  {group.__name__:<28}{sum(counts.values()):>5}  {shown}")
-    return (len(found) >= LEAST_SHEETS and all(totals[result] >= LEAST_OF_EACH for result in OUTCOMES)
+    return (len(answers) >= LEAST_SHEETS and all(totals[result] >= LEAST_OF_EACH for result in OUTCOMES)
             and all(totals[name] > 0 for name in FEATURES) and all(met))
 
 
@@ -185,20 +198,10 @@ def write_damaged(count, seed, directory):
 
 
 def main(arguments):
-    if arguments == ["--spread"]:
-        return spread()
-    if len(arguments) == 2 and arguments[0] == "--write":
-        write(arguments[1], corpus_files())
-        return True
-    if len(arguments) == 2 and arguments[0] == "--check":
-        return check(arguments[1], corpus_files())
     if len(arguments) == 4 and arguments[0] == "--damaged":
         write_damaged(int(arguments[1]), int(arguments[2]), arguments[3])
         return True
-    if arguments == ["--demand3"]:
-        return demand_3()
-    print(__doc__, file=sys.stderr)
-    return False
+    return command(arguments, __doc__, corpus_files, {"--spread": spread, "--demand3": demand_3})
 
 
 if __name__ == "__main__":

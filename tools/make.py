@@ -43,6 +43,13 @@ class Random:
         return mixed
 
 
+def of_groups(groups, seed):
+    """What each group makes, with the group's name. Each has a pseudo-random source of its own, by its name."""
+    for group in groups:
+        source = Random(seed + int.from_bytes(group.__name__.encode(), "little"))
+        yield from ((group.__name__, one) for one in group(source))
+
+
 # Floats.
 
 def bits_of(four):

@@ -1,7 +1,9 @@
-"""What other readings of documents 01 and 02 are made of. A reading is its words with the names of `reckon` that it replaces."""
+"""What other readings of the papers are made of. A reading is its words with the names of a reckoner that it replaces: of
+`reckon`, unless another one is named."""
 
 import inspect
 import struct
+from collections import Counter
 from contextlib import contextmanager
 from fractions import Fraction
 from math import floor
@@ -9,17 +11,18 @@ from math import floor
 import reckon
 
 PAPER = dict(vars(reckon))
+ENOUGH = 2
 
 
 @contextmanager
 def reading(changes, module=reckon):
     """The reckoner with some of its names replaced."""
-    replaced = {name: vars(module)[name] for name in changes}
+    kept = {name: vars(module)[name] for name in changes}
     vars(module).update(changes)
     try:
         yield
     finally:
-        vars(module).update(replaced)
+        vars(module).update(kept)
 
 
 def edited(name, *parts):
@@ -42,6 +45,11 @@ def by_edit(*rows):
 def simple(*rows):
     """Readings that replace one function: words, name, replacement."""
     return [(words, {name: replacement}) for words, name, replacement in rows]
+
+
+def replaced(name, *rows):
+    """Readings that replace one name: words, replacement."""
+    return simple(*((words, name, replacement) for words, replacement in rows))
 
 
 def before(name, change):
@@ -155,3 +163,49 @@ def by_floats(name, formula):
     def function(kind):
         return lambda *arguments: floor(float(formula(kind, *arguments) + kind(0.5)))
     return (("32-bit", {name: function(Single)}), ("64-bit", {name: function(float)}))
+
+
+# Readings of a reckoner whose inputs are few and short: every reading is tried on every input.
+
+def other_line(module, one):
+    """The line under a reading, or None if the reading ends in an error."""
+    try:
+        return module.line(*one)
+    except Exception:
+        return None
+
+
+def reasons_of(readings, equivalent):
+    """The reason of each equivalent reading; a name stands for the readings of a part, such as `NAME, at 1`, too."""
+    return {words: reason for reason, names in equivalent.items() for name in names
+            for words, _ in readings if words == name or words.startswith(f"{name}, ")}
+
+
+def faults_of_names(readings, equivalent):
+    names = Counter(words for words, _ in readings)
+    faults = [f"no reading: {name}" for names_of in equivalent.values() for name in names_of if name not in names]
+    return faults + [f"two readings: {words}" for words in names if names[words] > 1]
+
+
+def remark_on(words, told, reasons):
+    """What to say of a reading that so many inputs tell apart, and whether it is as it should be."""
+    if words in reasons:
+        return (f": equivalent, {reasons[words]}", True) if told == 0 else (": CALLED EQUIVALENT, TOLD APART", False)
+    return ("", True) if told >= ENOUGH else (": TOLD APART BY TOO FEW", False)
+
+
+def tell_apart(module, readings, equivalent, inputs, name):
+    """Prints how many of the inputs, which are called `name`, tell each reading apart; returns whether each is as it should be."""
+    known = [(one, module.line(*one)) for one in inputs]
+    reasons, faults = reasons_of(readings, equivalent), faults_of_names(readings, equivalent)
+    least = len(known)
+    for words, changes in readings:
+        with reading(changes, module):
+            told = sum(other_line(module, one) not in (None, line) for one, line in known)
+        became, is_right = remark_on(words, told, reasons)
+        faults += [] if is_right else [words]
+        least = least if words in reasons else min(least, told)
+        print(f"{told:>6}  {words}{became}", flush=True)
+    print("".join(f"FAULT {fault}\n" for fault in faults), end="")
+    print(f"{len(readings)} readings: {len(reasons)} equivalent, the others told apart by at least {least} of {len(known)} {name}")
+    return not faults

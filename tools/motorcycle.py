@@ -16,11 +16,10 @@ A file of fours has 18 bytes for each: the patterns of the levels in four bytes 
 
 import os
 import sys
-from collections import Counter
 from fractions import Fraction
 
-from corpus import check, write
-from make import Random
+from corpus import LEAST_OF_EACH, LINES, command, print_groups
+from make import of_groups
 from motorcycle_groups import GROUPS, raised_by_one_float
 from reckon import HIGHEST_LEVEL, LOWEST_LEVEL, Refused, float_value, level_tenths, rounded
 from sheet import Unreadable, level_bytes
@@ -144,19 +143,15 @@ def example_fours():
 
 # The fours and their lines.
 
-EXAMPLES_GROUP = "examples"
-LEVELS, LINES = os.path.join("data", "levels.bin"), "stdout"
+LEVELS = os.path.join("data", "levels.bin")
 SEED = 14
-LEAST_OF_EACH = 30
 ANSWERS = ("pass", "fail", "22 at 1", "22 at 2", "22 at 3", "22 at 4", "23 at 1", "23 at 2")
 
 
 def all_fours():
-    """Each four with the name of its group. Each group has a pseudo-random source of its own, by its name."""
-    yield from ((EXAMPLES_GROUP, one) for one in example_fours())
-    for group in GROUPS:
-        seed = SEED + int.from_bytes(group.__name__.encode(), "little")
-        yield from ((group.__name__, one) for one in group(Random(seed)))
+    """Each four with the name of its group."""
+    yield from (("examples", one) for one in example_fours())
+    yield from of_groups(GROUPS, SEED)
 
 
 def made():
@@ -183,15 +178,9 @@ def check_rising(fours):
 
 def spread():
     """Prints the spread; returns whether each answer comes up often enough, and no mean falls."""
-    groups, totals = {}, Counter()
-    for name, one in all_fours():
-        groups.setdefault(name, []).append(one)
-    for name, fours in groups.items():
-        counts = Counter(answer_of(one) for one in fours)
-        totals.update(counts)
-        print(f"{name:<28}{len(fours):>5}  " + ", ".join(f"{answer} {counts[answer]}" for answer in ANSWERS if counts[answer]))
-    print(f"{'all':<28}{totals.total():>5}  " + ", ".join(f"{answer} {totals[answer]}" for answer in ANSWERS))
-    rising = check_rising(groups[raised_by_one_float.__name__])
+    fours = list(all_fours())
+    totals = print_groups([(name, answer_of(one)) for name, one in fours], ANSWERS)
+    rising = check_rising([one for name, one in fours if name == raised_by_one_float.__name__])
     return rising and set(totals) == set(ANSWERS) and min(totals.values()) >= LEAST_OF_EACH
 
 
@@ -216,17 +205,9 @@ def print_line(words):
 
 
 def main(arguments):
-    if arguments in (["--spread"], ["--readings"]):
-        return {"--spread": spread, "--readings": readings}[arguments[0]]()
-    if len(arguments) == 2 and arguments[0] == "--write":
-        write(arguments[1], made())
-        return True
-    if len(arguments) == 2 and arguments[0] == "--check":
-        return check(arguments[1], made())
     if len(arguments) == 5:
         return print_line(arguments)
-    print(__doc__, file=sys.stderr)
-    return False
+    return command(arguments, __doc__, made, {"--spread": spread, "--readings": readings})
 
 
 if __name__ == "__main__":

@@ -5,25 +5,19 @@ stand in EQUIVALENT, by the reason.
 """
 
 import math
-from collections import Counter
 from fractions import Fraction
 from itertools import count
 
+import misread
 import motorcycle
 from make import bits_of
-from misread import Single, half_down, half_to_even, reading
+from misread import Single, half_down, half_to_even, reading, replaced
 from motorcycle import is_level, is_pass, mean_quarters, refuse_no_level, refuse_sides, whole_decibels
 from motorcycle_groups import HIGHEST, LOWEST
 from reckon import HIGHEST_LEVEL, LOWEST_LEVEL, Refused, float_value, level_tenths, rounded
 from sheets import decibels
 
-ENOUGH = 2
 paper = motorcycle.reckon
-
-
-def replaced(name, *rows):
-    """Readings that replace one name: words, replacement."""
-    return [(words, {name: replacement}) for words, replacement in rows]
 
 
 def values_of(floats):
@@ -363,39 +357,7 @@ EQUIVALENT = {
     "no mean is above 556": ["4 × limit at most 65,535"],
     "the limit is whole": ["the mean rounded up against the limit"],
 }
-REASONS = {words: reason for reason, names in EQUIVALENT.items() for name in names
-           for words, _ in READINGS if words == name or words.startswith(f"{name}, ")}
-
-
-def other_line(floats, limit):
-    """The line under a reading, or None if the reading ends in an error."""
-    try:
-        return motorcycle.line(floats, limit)
-    except Exception:
-        return None
-
-
-def verdict(words, told):
-    """What to say of a reading that so many fours tell apart, and whether it is as it should be."""
-    if words in REASONS:
-        return (f": equivalent, {REASONS[words]}", True) if told == 0 else (": CALLED EQUIVALENT, TOLD APART", False)
-    return ("", True) if told >= ENOUGH else (": TOLD APART BY TOO FEW", False)
 
 
 def tell_apart(fours):
-    """Prints how many fours tell each reading apart; returns whether each of them is as it should be."""
-    known = [(one, motorcycle.line(*one)) for one in fours]
-    names = Counter(words for words, _ in READINGS)
-    faults = [f"no reading: {name}" for names_of in EQUIVALENT.values() for name in names_of if name not in names]
-    faults += [f"two readings: {words}" for words in names if names[words] > 1]
-    least = len(fours)
-    for words, changes in READINGS:
-        with reading(changes, motorcycle):
-            told = sum(other_line(*one) not in (None, line) for one, line in known)
-        became, is_right = verdict(words, told)
-        faults += [] if is_right else [words]
-        least = least if words in REASONS else min(least, told)
-        print(f"{told:>6}  {words}{became}", flush=True)
-    print("".join(f"FAULT {fault}\n" for fault in faults), end="")
-    print(f"{len(READINGS)} readings: {len(REASONS)} equivalent, the others told apart by at least {least} of {len(fours)} fours")
-    return not faults
+    return misread.tell_apart(motorcycle, READINGS, EQUIVALENT, fours, "fours")

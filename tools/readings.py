@@ -23,9 +23,8 @@ import reckon
 import sheet_readings
 import window_readings
 from corpus import corpus
-from misread import reading
+from misread import ENOUGH, reading
 
-ENOUGH = 2
 LONG = 4000  # bytes
 SECONDS = 60  # for a reading that does not come to an end
 

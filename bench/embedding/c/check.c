@@ -1,4 +1,5 @@
-/* Checks what ruthimpo.h says, on the worked sheet and its line, the two files that its arguments name, and on motorcycles. */
+/* Checks what ruthimpo.h says, on the worked sheet and its line, the two files that its arguments name, on motorcycles and on
+ * production checks. */
 #define _POSIX_C_SOURCE 200809L
 #include "ruthimpo.h"
 
@@ -21,13 +22,18 @@ static void check(int holds, const char *words, size_t at) {
     }
 }
 
-static int is_kept(const uint8_t *bytes, size_t from) {
-    for (size_t at = from; at < ROOM; at++) {
+static int is_poison(const void *place, size_t count) {
+    const uint8_t *bytes = place;
+    for (size_t at = 0; at < count; at++) {
         if (bytes[at] != POISON) {
             return 0;
         }
     }
     return 1;
+}
+
+static int is_kept(const uint8_t *bytes, size_t from) {
+    return is_poison(bytes + from, ROOM - from);
 }
 
 /* Changes of a 16-bit number of the worked sheet, each with its refusal. */
@@ -177,13 +183,169 @@ static void check_motorcycles(void) {
     }
 }
 
+/* What the header says of each stage: its status and cars wanted, what is answered to a car, and the stage after one that meets
+ * the requirement and after one that fails it. */
+struct stage {
+    uint8_t status, wanted;
+    enum ruthimpo_refusal refusal;
+    size_t place;
+    uint16_t after_met, after_failed;
+};
+
+static const struct stage stages[] = {
+    {RUTHIMPO_OPEN, 1, RUTHIMPO_ACCEPTED, 0, 1, 2},
+    {RUTHIMPO_CONFORMS, 0, RUTHIMPO_CAR_AFTER_VERDICT, 1, 1, 1},
+    {RUTHIMPO_OPEN, 2, RUTHIMPO_ACCEPTED, 0, 3, 4},
+    {RUTHIMPO_OPEN, 1, RUTHIMPO_ACCEPTED, 0, 5, 6},
+    {RUTHIMPO_OPEN, 1, RUTHIMPO_ACCEPTED, 0, 6, 6},
+    {RUTHIMPO_CONFORMS, 0, RUTHIMPO_CAR_AFTER_VERDICT, 3, 5, 5},
+    {RUTHIMPO_DOES_NOT_CONFORM, 0, RUTHIMPO_CAR_AFTER_VERDICT, 3, 6, 6},
+};
+enum { STAGES = sizeof stages / sizeof *stages };
+
+static int is_check(const struct ruthimpo_production *one, uint16_t limit, uint16_t stage) {
+    return one->limit == limit && one->stage == stage;
+}
+
+/* A start between poisoned checks. */
+static void check_start(uint16_t limit) {
+    struct ruthimpo_production ones[3];
+    memset(ones, POISON, sizeof ones);
+    ruthimpo_production_start(limit, &ones[1]);
+    check(is_check(&ones[1], limit, 0), "start against limit", limit);
+    check(is_poison(&ones[0], sizeof *ones) && is_poison(&ones[2], sizeof *ones), "what stands beside a start", limit);
+}
+
+/* A car whose check and place stand between poisoned ones. */
+static void check_offer(struct ruthimpo_production one, const struct stage *said, uint16_t l_urban) {
+    struct ruthimpo_production ones[3];
+    size_t places[3];
+    memset(ones, POISON, sizeof ones);
+    memset(places, POISON, sizeof places);
+    ones[1] = one;
+    uint32_t refusal = ruthimpo_production_offer(&ones[1], l_urban, &places[1]);
+    uint16_t after = l_urban <= one.limit + 1ul ? said->after_met : said->after_failed;
+    check(refusal == said->refusal && places[1] == said->place, "answer to a car at stage", one.stage);
+    check(is_check(&ones[1], one.limit, after), "check after a car at stage", one.stage);
+    check(is_poison(&ones[0], sizeof *ones) && is_poison(&ones[2], sizeof *ones), "what stands beside the check", one.stage);
+    check(is_poison(&places[0], sizeof *places) && is_poison(&places[2], sizeof *places), "what stands beside its place", one.stage);
+}
+
+/* A status and a number of cars wanted between poisoned ones. */
+static void check_status(struct ruthimpo_production one, const struct stage *said, uint32_t refusal) {
+    struct ruthimpo_production kept = one;
+    uint8_t statuses[3], wanted[3];
+    memset(statuses, POISON, sizeof statuses);
+    memset(wanted, POISON, sizeof wanted);
+    check(ruthimpo_production_status(&one, &statuses[1], &wanted[1]) == refusal, "answer on the status of stage", one.stage);
+    check(statuses[1] == said->status && wanted[1] == said->wanted, "status and cars wanted of stage", one.stage);
+    check(statuses[0] == POISON && statuses[2] == POISON, "what stands beside the status", one.stage);
+    check(wanted[0] == POISON && wanted[2] == POISON, "what stands beside the cars wanted", one.stage);
+    check(is_check(&one, kept.limit, kept.stage), "check after its status", kept.stage);
+}
+
+/* Every stage with cars beside the limit plus 1 dB and at the ends. */
+static void check_stages(uint16_t limit) {
+    const unsigned long cars[] = {0, limit, limit + 1ul, limit + 2ul, UINT16_MAX};
+    check_start(limit);
+    for (uint16_t stage = 0; stage < STAGES; stage++) {
+        struct ruthimpo_production one = {limit, stage};
+        check_status(one, &stages[stage], RUTHIMPO_ACCEPTED);
+        for (size_t n = 0; n < sizeof cars / sizeof *cars; n++) {
+            if (cars[n] <= UINT16_MAX) {
+                check_offer(one, &stages[stage], (uint16_t)cars[n]);
+            }
+        }
+    }
+}
+
+/* Every number that is no stage, up to the first that differs. */
+static void check_no_stages(void) {
+    unsigned before = differing;
+    for (unsigned long stage = STAGES; stage <= UINT16_MAX && differing == before; stage++) {
+        struct ruthimpo_production one = {72, (uint16_t)stage};
+        struct stage said = {POISON, POISON, RUTHIMPO_NO_SUCH_STAGE, 0, one.stage, one.stage};
+        check_status(one, &said, RUTHIMPO_NO_SUCH_STAGE);
+        check_offer(one, &said, 73);
+        check_offer(one, &said, 74);
+    }
+}
+
+/* The cars of a check, with what is answered to the last one, and the status and the cars wanted after it. */
+static const struct {
+    uint16_t limit;
+    size_t count;
+    uint16_t cars[4];
+    enum ruthimpo_refusal refusal;
+    size_t place;
+    uint8_t status, wanted;
+} lists[] = {
+    {72, 1, {73}, RUTHIMPO_ACCEPTED, 0, RUTHIMPO_CONFORMS, 0},
+    {72, 2, {73, 73}, RUTHIMPO_CAR_AFTER_VERDICT, 1, RUTHIMPO_CONFORMS, 0},
+    {72, 3, {73, 74, 74}, RUTHIMPO_CAR_AFTER_VERDICT, 1, RUTHIMPO_CONFORMS, 0},
+    {72, 1, {74}, RUTHIMPO_ACCEPTED, 0, RUTHIMPO_OPEN, 2},
+    {72, 2, {74, 80}, RUTHIMPO_ACCEPTED, 0, RUTHIMPO_OPEN, 1},
+    {72, 2, {74, 73}, RUTHIMPO_ACCEPTED, 0, RUTHIMPO_OPEN, 1},
+    {72, 3, {74, 80, 70}, RUTHIMPO_ACCEPTED, 0, RUTHIMPO_DOES_NOT_CONFORM, 0},
+    {72, 3, {74, 73, 74}, RUTHIMPO_ACCEPTED, 0, RUTHIMPO_DOES_NOT_CONFORM, 0},
+    {72, 4, {74, 80, 70, 71}, RUTHIMPO_CAR_AFTER_VERDICT, 3, RUTHIMPO_DOES_NOT_CONFORM, 0},
+    {72, 3, {74, 73, 73}, RUTHIMPO_ACCEPTED, 0, RUTHIMPO_CONFORMS, 0},
+    {72, 4, {74, 73, 73, 80}, RUTHIMPO_CAR_AFTER_VERDICT, 3, RUTHIMPO_CONFORMS, 0},
+    {65535, 1, {65535}, RUTHIMPO_ACCEPTED, 0, RUTHIMPO_CONFORMS, 0},
+    {65534, 1, {65535}, RUTHIMPO_ACCEPTED, 0, RUTHIMPO_CONFORMS, 0},
+    {65533, 1, {65535}, RUTHIMPO_ACCEPTED, 0, RUTHIMPO_OPEN, 2},
+    {0, 1, {1}, RUTHIMPO_ACCEPTED, 0, RUTHIMPO_CONFORMS, 0},
+    {0, 1, {2}, RUTHIMPO_ACCEPTED, 0, RUTHIMPO_OPEN, 2},
+};
+
+static void check_lists(void) {
+    for (size_t n = 0; n < sizeof lists / sizeof *lists; n++) {
+        struct ruthimpo_production one;
+        uint32_t refusal = POISON;
+        size_t place = POISON;
+        uint8_t status = POISON, wanted = POISON;
+        ruthimpo_production_start(lists[n].limit, &one);
+        for (size_t at = 0; at < lists[n].count; at++) {
+            refusal = ruthimpo_production_offer(&one, lists[n].cars[at], &place);
+        }
+        check(refusal == lists[n].refusal && place == lists[n].place, "answer to the last car of list", n);
+        check(ruthimpo_production_status(&one, &status, &wanted) == RUTHIMPO_ACCEPTED, "answer on the status of list", n);
+        check(status == lists[n].status && wanted == lists[n].wanted, "status and cars wanted of list", n);
+    }
+}
+
+static void check_production(void) {
+    static const uint16_t limits[] = {0, 1, 72, 254, 255, 256, 32766, 32767, 32768, 65533, 65534, 65535};
+    for (size_t n = 0; n < sizeof limits / sizeof *limits; n++) {
+        check_stages(limits[n]);
+    }
+    check_no_stages();
+    check_lists();
+}
+
 /* What a thread calls for: so many bytes of the shared sheet, and the line that they have. */
 struct task {
     size_t bytes, length;
     const uint8_t *line;
 };
 
-/* Answers NULL if a call gives another line, or another mean of a motorcycle. */
+/* Whether a check of its own conforms after three cars. */
+static int conforms_after_three(void) {
+    static const uint16_t cars[] = {74, 73, 73};
+    struct ruthimpo_production one;
+    uint8_t status = POISON, wanted = POISON;
+    size_t place;
+    ruthimpo_production_start(72, &one);
+    for (size_t n = 0; n < sizeof cars / sizeof *cars; n++) {
+        if (ruthimpo_production_offer(&one, cars[n], &place) != RUTHIMPO_ACCEPTED) {
+            return 0;
+        }
+    }
+    ruthimpo_production_status(&one, &status, &wanted);
+    return status == RUTHIMPO_CONFORMS && wanted == 0;
+}
+
+/* Answers NULL if a call gives another line, another mean of a motorcycle or another status of a production check. */
 static void *calls_of_a_thread(void *argument) {
     static const uint32_t levels[4] = {0x42A00000, 0x42A20000, 0x42A00000, 0x42A00000}; /* 80.0, and 81.0 once */
     const struct task *task = argument;
@@ -195,6 +357,9 @@ static void *calls_of_a_thread(void *argument) {
             return NULL;
         }
         if (ruthimpo_motorcycle(levels, 80, &mean, &pass, &place) != 0 || mean != 317 || pass != 1) {
+            return NULL;
+        }
+        if (!conforms_after_three()) {
             return NULL;
         }
     }
@@ -240,6 +405,7 @@ int main(int count, char **names) {
     check_line_buffers();
     check_alignments();
     check_motorcycles();
+    check_production();
     check_threads();
     printf("%u of %u checks of ruthimpo.h hold\n", checks - differing, checks);
     return differing == 0 ? 0 : 1;

@@ -1,4 +1,4 @@
-/* The proved evaluation of pass-by sheets and verdict on motorcycles, for programs in C on x86-64 Linux.
+/* The proved evaluation of pass-by sheets, verdict on motorcycles and production checks, for programs in C on x86-64 Linux.
  *
  * `rt staticlib embed` writes target/staticlib/libembed.a. A program links it, and needs nothing else for it:
  *
@@ -7,15 +7,16 @@
  * The archive calls memcpy and memset and no other function, and it can be linked into a shared library too.
  *
  * Threads: the library has no state. It keeps nothing between calls and takes no memory but the stack, for which a thread
- * with 16 KB has room. Any number of threads may call it at once, each with buffers of its own; they may share a sheet.
+ * with 16 KB has room. Any number of threads may call it at once, each with buffers and production checks of its own; they may
+ * share a sheet.
  *
  * Pointers: bytes may lie at any address, and a pointer to them may be NULL if the length with it is 0. A pointer without a
  * length, such as `place`, may not be NULL and is aligned as any other of its type. The caller sees to it that the bytes
  * behind each pointer are as many as it says and do not overlap, and that nobody else writes them during the call.
  *
  * Places: records count from 0, and the bytes of a record are those from 32 * place on. The place of a gear is its number,
- * that of a motorcycle's level its number, 1 to 4, and that of its left side 1, of its right side 2. If a refusal names none
- * of these, its place is 0.
+ * that of a motorcycle's level its number, 1 to 4, and that of its left side 1, of its right side 2. The place of a car after
+ * the verdict is the number of cars counted, 1 or 3. If a refusal names none of these, its place is 0.
  */
 #ifndef RUTHIMPO_H
 #define RUTHIMPO_H
@@ -32,7 +33,8 @@ extern "C" {
 #define RUTHIMPO_LINE_BYTES 276
 
 /* Acceptance, or the number of a refusal. ruthimpo_evaluate answers 0 to 10 (document 01, "Refusals and what remains"),
- * ruthimpo_motorcycle 0, 22 or 23 (document 02, wish 14). */
+ * ruthimpo_motorcycle 0, 22 or 23 (document 02, wish 14), ruthimpo_production_offer 0, 20 (document 02, wish 11)
+ * or 255, ruthimpo_production_status 0 or 255; 255 is no number of the documents. */
 enum ruthimpo_refusal {
     RUTHIMPO_ACCEPTED = 0,
     RUTHIMPO_SHORT_BUFFER = 1,        /* the result buffer has under 32 bytes */
@@ -46,8 +48,10 @@ enum ruthimpo_refusal {
     RUTHIMPO_NOT_FALLING = 8,         /* the place is the lower gear of the first neighbours whose accelerations do not fall */
     RUTHIMPO_NO_RULE = 9,             /* every gear is dropped, or none of the rules chooses one */
     RUTHIMPO_NO_CONSTANT_SPEED = 10,  /* the place is the lowest chosen gear without a constant-speed window */
+    RUTHIMPO_CAR_AFTER_VERDICT = 20,  /* the place is the number of cars counted */
     RUTHIMPO_LEVEL_OUT_OF_RANGE = 22, /* the place is the number of the first level that is not finite or not from 20.0 to 140.0 */
-    RUTHIMPO_SIDE_FAR_APART = 23      /* the place is the first side whose two levels, in whole dB, differ by more than 2 */
+    RUTHIMPO_SIDE_FAR_APART = 23,     /* the place is the first side whose two levels, in whole dB, differ by more than 2 */
+    RUTHIMPO_NO_SUCH_STAGE = 255      /* the stage of a production check is above 6 */
 };
 
 /* Places of the result record (document 01, "L_urban"). From W on they are 16-bit numbers, low byte first. */
@@ -92,6 +96,48 @@ size_t ruthimpo_line(const uint8_t *sheet, size_t sheet_bytes, uint8_t *out, siz
  * else 0. Or answers the number of the refusal, 22 or 23, and leaves `mean` and `pass` as they were; the place of the refusal
  * goes to `place`. On success `place` is 0. */
 uint32_t ruthimpo_motorcycle(const uint32_t levels[4], uint16_t limit, uint16_t *mean, uint8_t *pass, size_t *place);
+
+/* A production check as a program keeps it between cars: the limit in whole dB, without the 1 dB that the requirement adds, and
+ * the stage that it has reached.
+ *
+ * A car meets the requirement if its L_urban is at most the limit plus 1 dB; nothing wraps, and every car meets it with a limit
+ * of 65,534 or 65,535. The stages:
+ *
+ *     stage  wanted
+ *       0      1    no car yet
+ *       1      0    the first car meets the requirement: the type conforms
+ *       2      2    the first car fails it
+ *       3      1    the first fails it, the second meets it
+ *       4      1    the first and the second fail it
+ *       5      0    the first fails it, the second and the third meet it: the type conforms
+ *       6      0    the first fails it, and so does the second, the third or both: the type does not conform
+ *
+ * A program may copy a check, or store both numbers and go on from them later. Any limit with a stage from 0 to 6 is taken for a
+ * check, so a check is always started; the library cannot tell whether the limit is still that of the start. */
+struct ruthimpo_production {
+    uint16_t limit;
+    uint16_t stage;
+};
+
+enum ruthimpo_status {
+    RUTHIMPO_OPEN = 0,
+    RUTHIMPO_CONFORMS = 1,
+    RUTHIMPO_DOES_NOT_CONFORM = 2
+};
+
+/* Starts a production check against a limit, any number: writes the limit and stage 0. */
+void ruthimpo_production_start(uint16_t limit, struct ruthimpo_production *check);
+
+/* Offers the next car by its L_urban in whole dB, any number.
+ *
+ * Answers 0 and puts the stage that the car leads to into `check`, where the limit stays; `place` is 0. Or answers the number of
+ * the refusal and leaves all of `check` as it was: 20 if the verdict is given already, with the number of cars counted, 1 or 3,
+ * in `place`; 255 if the stage is above 6, with 0 in `place`. */
+uint32_t ruthimpo_production_offer(struct ruthimpo_production *check, uint16_t l_urban, size_t *place);
+
+/* Answers 0 and puts one of ruthimpo_status into `status`, and the number of cars still wanted, 0 to 2, into `wanted`. Or, if the
+ * stage is above 6, answers 255 and leaves `status` and `wanted` as they were. */
+uint32_t ruthimpo_production_status(const struct ruthimpo_production *check, uint8_t *status, uint8_t *wanted);
 
 #ifdef __cplusplus
 }

@@ -1,6 +1,6 @@
-//! The proved evaluation of pass-by sheets and verdict on motorcycles, for Rust programs on x86-64 Linux: safe functions over the
-//! static library of the crate `embed`, which `rt staticlib embed` writes. The library has no state, so any number of threads
-//! may call it at once.
+//! The proved evaluation of pass-by sheets, verdict on motorcycles and production checks, for Rust programs on x86-64 Linux: safe
+//! functions over the static library of the crate `embed`, which `rt staticlib embed` writes. The library has no state, so any
+//! number of threads may call it at once.
 
 use std::fmt;
 
@@ -23,10 +23,17 @@ extern "C" {
     /// The verdict on a motorcycle as C has it: of four patterns of floats, 0 or the number of the refusal, and its place.
     pub fn ruthimpo_motorcycle(levels: *const u32, limit: u16, mean: *mut u16, pass: *mut u8, place: *mut usize)
         -> u32;
+    /// The start of a production check as C has it.
+    pub fn ruthimpo_production_start(limit: u16, check: *mut ProductionCheck);
+    /// A car offered to a production check as C has it: 0 or the number of the refusal, and its place.
+    pub fn ruthimpo_production_offer(check: *mut ProductionCheck, l_urban: u16, place: *mut usize) -> u32;
+    /// The status of a production check as C has it: 0 or the number of the refusal.
+    pub fn ruthimpo_production_status(check: *const ProductionCheck, status: *mut u8, wanted: *mut u8) -> u32;
 }
 
-/// A refusal of document 01 or of document 02, wish 14: its number, and the record (from 0), the gear, the level (from 1) or
-/// the side (1 left, 2 right) that it names, or 0 if it names none.
+/// A refusal of document 01 or of document 02, wishes 11 and 14, or that of a stage that no production check has: its number,
+/// and the record (from 0), the gear, the level (from 1), the side (1 left, 2 right) or the number of cars counted that it names,
+/// or 0 if it names none.
 #[derive(Clone, Copy, Debug, PartialEq, Eq)]
 pub struct Refusal {
     pub number: u32,
@@ -45,8 +52,10 @@ impl Refusal {
     pub const NOT_FALLING: u32 = 8;
     pub const NO_RULE: u32 = 9;
     pub const NO_CONSTANT_SPEED: u32 = 10;
+    pub const CAR_AFTER_VERDICT: u32 = 20;
     pub const LEVEL_OUT_OF_RANGE: u32 = 22;
     pub const SIDE_FAR_APART: u32 = 23;
+    pub const NO_SUCH_STAGE: u32 = 255;
 }
 
 impl fmt::Display for Refusal {
@@ -96,11 +105,63 @@ pub fn motorcycle(levels: [f32; 4], limit: u16) -> Result<MotorcycleMean, Refusa
     }
 }
 
+/// A production check as a program keeps it between cars: the limit in whole dB, and the number of the stage that it has reached,
+/// as `c/ruthimpo.h` lists them.
+#[repr(C)]
+#[derive(Clone, Copy, Debug, PartialEq, Eq)]
+pub struct ProductionCheck {
+    pub limit: u16,
+    pub stage: u16,
+}
+
+/// The status of a production check.
+#[derive(Clone, Copy, Debug, PartialEq, Eq)]
+pub enum Status {
+    Open = 0,
+    Conforms = 1,
+    DoesNotConform = 2,
+}
+
+impl ProductionCheck {
+    /// A check against a limit, without a car.
+    pub fn start(limit: u16) -> ProductionCheck {
+        let mut check = ProductionCheck { limit: 0, stage: 0 };
+        // SAFETY: the pointer is that of a live place, aligned by its type.
+        unsafe { ruthimpo_production_start(limit, &mut check) };
+        check
+    }
+
+    /// Offers the next car. A refusal leaves the check as it was.
+    pub fn offer(&mut self, l_urban: u16) -> Result<(), Refusal> {
+        let mut place = 0;
+        // SAFETY: the pointers are those of live places of their own, aligned by their types.
+        let number = unsafe { ruthimpo_production_offer(self, l_urban, &mut place) };
+        match number {
+            0 => Ok(()),
+            _ => Err(Refusal { number, place }),
+        }
+    }
+
+    /// The status and the number of cars still wanted.
+    pub fn status(&self) -> Result<(Status, u8), Refusal> {
+        let (mut status, mut wanted) = (0, 0);
+        // SAFETY: as in `offer`.
+        let number = unsafe { ruthimpo_production_status(self, &mut status, &mut wanted) };
+        match (number, status) {
+            (0, 0) => Ok((Status::Open, wanted)),
+            (0, 1) => Ok((Status::Conforms, wanted)),
+            (0, 2) => Ok((Status::DoesNotConform, wanted)),
+            (0, other) => unreachable!("no status is {other}"),
+            _ => Err(Refusal { number, place: 0 }),
+        }
+    }
+}
+
 #[cfg(test)]
 mod tests {
     use super::*;
 
-    const NAMES: [(&str, u32); 12] = [
+    const NAMES: [(&str, u32); 17] = [
         ("SHORT_BUFFER", Refusal::SHORT_BUFFER),
         ("WRONG_SIZE", Refusal::WRONG_SIZE),
         ("NO_VEHICLE", Refusal::NO_VEHICLE),
@@ -111,8 +172,13 @@ mod tests {
         ("NOT_FALLING", Refusal::NOT_FALLING),
         ("NO_RULE", Refusal::NO_RULE),
         ("NO_CONSTANT_SPEED", Refusal::NO_CONSTANT_SPEED),
+        ("CAR_AFTER_VERDICT", Refusal::CAR_AFTER_VERDICT),
         ("LEVEL_OUT_OF_RANGE", Refusal::LEVEL_OUT_OF_RANGE),
         ("SIDE_FAR_APART", Refusal::SIDE_FAR_APART),
+        ("NO_SUCH_STAGE", Refusal::NO_SUCH_STAGE),
+        ("OPEN", Status::Open as u32),
+        ("CONFORMS", Status::Conforms as u32),
+        ("DOES_NOT_CONFORM", Status::DoesNotConform as u32),
     ];
 
     #[test]
@@ -146,5 +212,42 @@ mod tests {
         assert_eq!(motorcycle([20.0, 140.0, 20.0_f32.next_down(), 80.0], 80), refused(Refusal::LEVEL_OUT_OF_RANGE, 3));
         assert_eq!(motorcycle([80.0, 83.0, 80.0, 83.0], 80), refused(Refusal::SIDE_FAR_APART, 1));
         assert_eq!(motorcycle([80.0, 82.4, 80.0, 82.5], 80), refused(Refusal::SIDE_FAR_APART, 2));
+    }
+
+    /// The status and the cars wanted after each car of a check, or the refusal.
+    fn answers(limit: u16, cars: &[u16]) -> Vec<Result<(Status, u8), Refusal>> {
+        let mut check = ProductionCheck::start(limit);
+        cars.iter().map(|&car| check.offer(car).and_then(|()| check.status())).collect()
+    }
+
+    #[test]
+    fn a_production_check_ends_after_one_car_or_three() {
+        let late = |place| Err(Refusal { number: Refusal::CAR_AFTER_VERDICT, place });
+        let (open, conforms, does_not) =
+            (|wanted| Ok((Status::Open, wanted)), Ok((Status::Conforms, 0)), Ok((Status::DoesNotConform, 0)));
+        assert_eq!(ProductionCheck::start(72).status(), open(1));
+        assert_eq!(answers(72, &[73, 73, 74]), [conforms, late(1), late(1)]);
+        assert_eq!(answers(72, &[74, 80, 70, 71, 74]), [open(2), open(1), does_not, late(3), late(3)]);
+        assert_eq!(answers(72, &[74, 73, 74]), [open(2), open(1), does_not]);
+        assert_eq!(answers(72, &[74, 73, 73, 80]), [open(2), open(1), conforms, late(3)]);
+        assert_eq!(answers(0, &[2, 1, 1]), [open(2), open(1), conforms]);
+        assert_eq!(answers(65_533, &[65_535]), [open(2)]);
+        assert_eq!(answers(65_534, &[65_535]), [conforms]);
+        assert_eq!(answers(65_535, &[65_535, 0]), [conforms, late(1)]);
+    }
+
+    #[test]
+    fn a_refusal_leaves_the_check() {
+        let late = |place| Refusal { number: Refusal::CAR_AFTER_VERDICT, place };
+        let none = Refusal { number: Refusal::NO_SUCH_STAGE, place: 0 };
+        for (stage, refusal) in [(1, late(1)), (5, late(3)), (6, late(3)), (7, none), (256, none), (u16::MAX, none)] {
+            let before = ProductionCheck { limit: 72, stage };
+            for car in [73, 74] {
+                let mut check = before;
+                assert_eq!(check.offer(car), Err(refusal));
+                assert_eq!(check, before);
+                assert_eq!(check.status() == Err(none), stage > 6);
+            }
+        }
     }
 }

@@ -1,12 +1,14 @@
-//! The evaluation of a pass-by sheet and of a motorcycle in plain Rust, written from documents 01, 02 and 003.
+//! Pass-by sheets, motorcycles and production checks in plain Rust, written from documents 001, 003, 01 and 02.
 
 mod gears;
 mod motorcycle;
+mod production;
 pub mod reference;
 mod sheet;
 mod window;
 
 pub use motorcycle::{motorcycle, Mean};
+pub use production::{production, Standing, Status};
 
 use gears::{check_falling, choose, Choice, Gear};
 use reference::{a_ref, a_urban, CONSTANT_SPEED_PMR};

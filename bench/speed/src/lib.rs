@@ -1,5 +1,6 @@
-//! What the differential run and the speed table share: sheets, fours of levels, and a fast evaluation in Rust.
+//! What the differential run and the speed table share: sheets, fours of levels, lists of cars, and a fast evaluation in Rust.
 
+pub mod cars;
 pub mod changes;
 pub mod fours;
 pub mod random;

@@ -1,6 +1,8 @@
-// The evaluation, and the verdict on the levels of a motorcycle, for programs in C and Rust. A slice is a pointer and a length, an array a
-// pointer, and an answer is numbers.
+// The evaluation, the verdict on the levels of a motorcycle and production checks, for programs in C and Rust. A slice is a pointer and a
+// length, an array a pointer, and an answer is numbers.
 use motorcycle::Verdict;
+use production::Check;
+use production::Restored;
 ghost use mathlib.Core.Path.{_≡_};
 ghost use lib.ListN.{length};
 ghost use Rattle.units.specs.Bytes.{number};
@@ -10,8 +12,11 @@ ghost use Rattle.evaluation.specs.Demand.{CloseTo, RisesFrom};
 ghost use Rattle.text.specs.Text.{onto};
 ghost use Rattle.motorcycle.specs.Verdict.{verdictOf, verdictNumber, verdictPlace};
 ghost use Rattle.motorcycle.specs.Patterns.{levelsOf};
+ghost use Rattle.production.specs.Stages.{startOf};
+ghost use Rattle.production.specs.Numbers.{checkNumbers, restoredFrom};
 ghost use Rattle.embed.specs.Printed.{printedOf};
 ghost use Rattle.embed.specs.MeanAndPass.{meanOr, passOr};
+ghost use Rattle.embed.specs.CheckInNumbers.{offerCode, offerPlace, numbersAfter, statusCode, statusOr, wantedOr, OfferInNumbers, StatusInNumbers};
 
 // Evaluates a sheet. Answers 0 and puts the result record into the first 32 bytes of `result`, or answers the number of the refusal
 // and leaves `result` as it was. The place of the refusal goes to `place`, 0 on success.
@@ -76,4 +81,100 @@ pub extern "C" fn ruthimpo_motorcycle(
     put_mean(verdict, mean, pass);
     *place = motorcycle::verdict_place(verdict);
     motorcycle::verdict_number(verdict) as u32
+}
+
+// The answer to a number that no stage has. The papers give no number for this; theirs end at 23.
+const NO_SUCH_STAGE: u32 = 255;
+
+// Puts the two numbers of a check behind a pointer.
+fn put_check(check: Check, numbers: &mut [u16; 2])
+    ensures { λ _. ⌜ now (numbers .exit) ≡ checkNumbers check ⌝ }
+{
+    let stage = check.stage;
+    *numbers = [check.limit, stage.number()];
+}
+
+// Starts a production check against a limit in whole dB(A). Puts its two numbers, the limit and the stage, behind `check`, where the
+// caller keeps them.
+#[no_mangle]
+pub extern "C" fn ruthimpo_production_start(limit: u16, check: &mut [u16; 2])
+    ensures { λ _. ⌜ now (check .exit) ≡ checkNumbers (startOf limit) ⌝ }
+{
+    put_check(Check::start(limit), check);
+}
+
+// Offers a car to what was restored from the numbers behind a pointer, and puts those of the next check there.
+fn offer_restored(
+    restored: Restored,
+    l_urban: u16,
+    numbers: &mut [u16; 2],
+    place: &mut usize,
+) -> u32
+    ensures code { λ r. ⌜ r ≡ offerCode restored «l_urban» ⌝ }
+    ensures place { λ _. ⌜ now (place .exit) ≡ offerPlace restored «l_urban» ⌝ }
+    ensures check { λ _. ⌜ now (numbers .exit) ≡ numbersAfter restored «l_urban» (now (numbers .entry)) ⌝ }
+{
+    match restored {
+        Restored::At(check) => {
+            let offered = check.offer(l_urban);
+            let reply = offered.reply;
+            put_check(offered.check, numbers);
+            *place = reply.place();
+            reply.number() as u32
+        }
+        Restored::NoSuchStage => {
+            *place = 0;
+            NO_SUCH_STAGE
+        }
+    }
+}
+
+// Offers a car by its L_urban to the check behind `check`. Answers 0 and puts the numbers of the next check there; or answers 20 with the number
+// of cars counted in `place`, or 255 if no stage has that number, and leaves them as they were. `place` is 0 unless the answer is 20.
+#[no_mangle]
+pub extern "C" fn ruthimpo_production_offer(
+    check: &mut [u16; 2],
+    l_urban: u16,
+    place: &mut usize,
+) -> u32
+    ensures code { λ r. ⌜ r ≡ offerCode (restoredFrom (now (check .entry))) «l_urban» ⌝ }
+    ensures place { λ _. ⌜ now (place .exit) ≡ offerPlace (restoredFrom (now (check .entry))) «l_urban» ⌝ }
+    ensures check { λ _. ⌜ now (check .exit) ≡ numbersAfter (restoredFrom (now (check .entry))) «l_urban» (now (check .entry)) ⌝ }
+    ensures annex { λ r. ⌜ OfferInNumbers (now (check .entry)) «l_urban» r (now (place .exit)) (now (check .exit)) ⌝ }
+{
+    let restored = Check::restore(check[0], check[1]);
+    offer_restored(restored, l_urban, check, place)
+}
+
+// Puts the status of what was restored, and the cars it wants, behind two pointers.
+fn put_status(restored: Restored, status: &mut u8, wanted: &mut u8) -> u32
+    ensures code { λ r. ⌜ r ≡ statusCode restored ⌝ }
+    ensures status { λ _. ⌜ now (status .exit) ≡ statusOr restored (now (status .entry)) ⌝ }
+    ensures wanted { λ _. ⌜ now (wanted .exit) ≡ wantedOr restored (now (wanted .entry)) ⌝ }
+{
+    match restored {
+        Restored::At(check) => {
+            let is = check.status();
+            *status = is.number();
+            *wanted = check.wanted();
+            0
+        }
+        Restored::NoSuchStage => NO_SUCH_STAGE,
+    }
+}
+
+// Reads the check behind `check`. Answers 0 and puts the status, 0 open, 1 conforms, 2 does not conform, into `status` and the number of cars still
+// wanted into `wanted`; or answers 255 if no stage has that number, and leaves both as they were.
+#[no_mangle]
+pub extern "C" fn ruthimpo_production_status(
+    check: &[u16; 2],
+    status: &mut u8,
+    wanted: &mut u8,
+) -> u32
+    ensures code { λ r. ⌜ r ≡ statusCode (restoredFrom (now (check .entry))) ⌝ }
+    ensures status { λ _. ⌜ now (status .exit) ≡ statusOr (restoredFrom (now (check .entry))) (now (status .entry)) ⌝ }
+    ensures wanted { λ _. ⌜ now (wanted .exit) ≡ wantedOr (restoredFrom (now (check .entry))) (now (wanted .entry)) ⌝ }
+    ensures annex { λ r. ⌜ StatusInNumbers (now (check .entry)) r (now (status .exit)) (now (wanted .exit)) ⌝ }
+{
+    put_status(Check::restore(check[0], check[1]), status, wanted)
 }

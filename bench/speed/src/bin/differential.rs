@@ -1,11 +1,14 @@
-//! Compares the proved evaluation with both evaluations in Rust on random and damaged sheets, and that of motorcycles with
-//! one in Rust on as many random fours of levels.
+//! Compares the proved library with two evaluations in Rust on random and damaged sheets, and with one of them on as many random
+//! fours of levels and lists of cars.
 //!
 //!     differential SHEETS COUNT [SEED]     SHEETS is the file of the corpus
 //!
 //! Each result buffer has bytes that an evaluation must keep: all of them on a refusal, those from 32 on on success.
-//! The sheet stays too. So do a motorcycle's levels, on a refusal its mean and pass, and what stands beside these.
+//! The sheet stays too. So do a motorcycle's levels, on a refusal its mean and pass, and what stands beside these; and so do a
+//! production check's limit, on a refusal its stage, and what stands beside it.
 
+use ruthimpo::ProductionCheck;
+use speed::cars::{any_list, CarList};
 use speed::changes::any_sheet;
 use speed::fours::{any_four, Four};
 use speed::random::Random;
@@ -156,12 +159,124 @@ fn compare_motorcycles(random: &mut Random, count: usize) -> bool {
         }
         *answers.entry(ours.name()).or_default() += 1;
     }
-    for (name, found) in &answers {
-        println!("{name:<15}{found:>9}");
+    let agreed = format!("{count} motorcycles: the proved evaluation and one in Rust gave the same answers");
+    all_came_up(&answers, 8, &agreed)
+}
+
+/// Prints how often each answer came up, and that all agreed; whether as many answers did as there are.
+fn all_came_up(answers: &BTreeMap<String, usize>, all: usize, agreed: &str) -> bool {
+    for (name, found) in answers {
+        println!("{name:<26}{found:>9}");
     }
-    println!("{count} motorcycles: the proved evaluation and one in Rust gave the same answers");
-    println!("{} of 8 answers came up", answers.len());
-    answers.len() == 8
+    println!("{agreed}\n{} of {all} answers came up", answers.len());
+    answers.len() == all
+}
+
+/// A production check after its last car: 0 or a refusal's number, its place, the limit, the status and the cars wanted.
+#[derive(PartialEq, Eq, Debug)]
+struct AfterCar {
+    number: u32,
+    place: usize,
+    limit: u16,
+    status: u8,
+    wanted: u8,
+}
+
+impl AfterCar {
+    fn by_the_reckoning(limit: u16, cars: &[u16]) -> AfterCar {
+        let standing = reckoning::production(limit, cars);
+        let (number, place) = standing.answer.err().unwrap_or((0, 0));
+        let status = match standing.status {
+            reckoning::Status::Open => 0,
+            reckoning::Status::Conforms => 1,
+            reckoning::Status::DoesNotConform => 2,
+        };
+        AfterCar { number, place: place as usize, limit, status, wanted: standing.wanted }
+    }
+
+    /// The answer by its stage, its refusal, or its status and cars wanted.
+    fn name(&self, stage: u16) -> String {
+        match (self.number, self.status) {
+            (0, 0) => format!("stage {stage}: open, {} wanted", self.wanted),
+            (0, 1) => format!("stage {stage}: conforms"),
+            (0, _) => format!("stage {stage}: does not conform"),
+            (number, _) => format!("stage {stage}: refusal {number} at {}", self.place),
+        }
+    }
+}
+
+/// A production check of the library between poisoned ones, as a program hands it on.
+struct Kept([ProductionCheck; 3]);
+
+impl Kept {
+    const POISONED: ProductionCheck = ProductionCheck { limit: 0xA5A5, stage: 0xA5A5 };
+
+    fn start(limit: u16) -> Kept {
+        let mut kept = Kept([Kept::POISONED; 3]);
+        // SAFETY: the pointer is that of a live place, aligned by its type.
+        unsafe { ruthimpo::ruthimpo_production_start(limit, &mut kept.0[1]) };
+        kept
+    }
+
+    /// 0 or the number of the refusal, and its place.
+    fn offer(&mut self, car: u16) -> (u32, usize) {
+        let mut place = usize::MAX;
+        // SAFETY: the pointers are those of live places of their own, aligned by their types.
+        let number = unsafe { ruthimpo::ruthimpo_production_offer(&mut self.0[1], car, &mut place) };
+        (number, place)
+    }
+
+    fn read(&mut self, (number, place): (u32, usize)) -> AfterCar {
+        let (mut statuses, mut wanted) = ([POISON; 3], [POISON; 3]);
+        // A pointer that may write, so that a check which was written is seen.
+        let check = &raw mut self.0[1];
+        // SAFETY: as in `offer`.
+        let answer = unsafe { ruthimpo::ruthimpo_production_status(check, &mut statuses[1], &mut wanted[1]) };
+        assert_eq!(answer, 0, "the status of {:?} is refused", self.0[1]);
+        assert_eq!(
+            [statuses[0], statuses[2], wanted[0], wanted[2]],
+            [POISON; 4],
+            "what stands beside a status was written"
+        );
+        AfterCar { number, place, limit: self.0[1].limit, status: statuses[1], wanted: wanted[1] }
+    }
+}
+
+/// Follows a list of cars one at a time, and counts the answers; what differs, if anything does.
+fn follow(list: &CarList, answers: &mut BTreeMap<String, usize>) -> Result<(), String> {
+    let mut kept = Kept::start(list.limit);
+    let mut given = (0, 0);
+    for count in 0..=list.cars.len() {
+        let before = kept.0;
+        if let Some(last) = count.checked_sub(1) {
+            given = kept.offer(list.cars[last]);
+        }
+        let after = kept.0;
+        let (ours, reckoned) = (kept.read(given), AfterCar::by_the_reckoning(list.limit, &list.cars[..count]));
+        if ours != reckoned {
+            return Err(format!("after {count} cars ours {ours:?}, reckoning {reckoned:?}"));
+        }
+        if kept.0 != after || [after[0], after[2]] != [Kept::POISONED; 2] || (given.0 != 0 && after != before) {
+            return Err(format!("after {count} cars a check was not kept: {before:?}, {after:?}, {:?}", kept.0));
+        }
+        *answers.entry(ours.name(after[1].stage)).or_default() += 1;
+    }
+    Ok(())
+}
+
+/// Compares so many production checks, as `compare_sheets` does.
+fn compare_production(random: &mut Random, count: usize) -> bool {
+    let mut answers: BTreeMap<String, usize> = BTreeMap::new();
+    for at in 0..count {
+        let list = any_list(random);
+        if let Err(words) = follow(&list, &mut answers) {
+            println!("production check {at}, {list:?}: {words}");
+            return false;
+        }
+    }
+    let agreed =
+        format!("{count} production checks: the proved ones and those in Rust gave the same answers after each car");
+    all_came_up(&answers, 10, &agreed)
 }
 
 fn main() -> ExitCode {
@@ -173,7 +288,10 @@ fn main() -> ExitCode {
     let corpus = corpus(path);
     let count: usize = count.parse().expect("COUNT is a number");
     let mut random = Random::new(seed.first().map_or(1, |seed| seed.parse().expect("SEED is a number")));
-    if compare_sheets(&mut random, &corpus, count) && compare_motorcycles(&mut random, count) {
+    if compare_sheets(&mut random, &corpus, count)
+        && compare_motorcycles(&mut random, count)
+        && compare_production(&mut random, count)
+    {
         ExitCode::SUCCESS
     } else {
         ExitCode::FAILURE
