@@ -89,6 +89,27 @@ def command(arguments, words, made, others):
     return False
 
 
+def print_line(words, line):
+    """Prints the line of the 16-bit numbers in words, or which word is none."""
+    for word in words:
+        if not (word.isascii() and word.isdecimal()) or int(word) >= 2 ** 16:
+            print(f"{word} is no 16-bit number", file=sys.stderr)
+            return False
+    print(line(*(int(word) for word in words)))
+    return True
+
+
+def example_inputs(examples, made_of, line):
+    """What `made_of` makes of the numbers of each example; fails if its line is another than the one beside them."""
+    inputs = []
+    for words, expected in examples:
+        one = made_of(*(int(word) for word in words.split()))
+        if line(*one) != expected:
+            raise SystemExit(f"{words}: should give {expected}, the reckoner has {line(*one)}")
+        inputs.append(one)
+    return inputs
+
+
 def print_groups(found, answers):
     """Prints how often each answer comes up, by group and in all; returns the totals. `found` has pairs of a group and an answer."""
     groups, totals = {}, Counter()

@@ -50,6 +50,11 @@ def of_groups(groups, seed):
         yield from ((group.__name__, one) for one in group(source))
 
 
+def numbers(*candidates):
+    """Those of the candidates that 16 bits hold, each once."""
+    return sorted({number for number in candidates if 0 <= number < 2 ** 16})
+
+
 # Floats.
 
 def bits_of(four):

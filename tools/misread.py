@@ -128,6 +128,18 @@ def rounding_in(name, rounding):
     return {name: changed}
 
 
+# Numbers that lose a bit or more.
+
+def with_sign(number, bits=16):
+    """A number by so many bits as one with a sign."""
+    return (number + 2 ** (bits - 1)) % 2 ** bits - 2 ** (bits - 1)
+
+
+def turned(number):
+    """A number of 16 bits with its two bytes turned."""
+    return number // 256 + number % 256 * 256
+
+
 # Floats in the place of fractions.
 
 class Single:

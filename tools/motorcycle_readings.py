@@ -11,7 +11,7 @@ from itertools import count
 import misread
 import motorcycle
 from make import bits_of
-from misread import Single, half_down, half_to_even, reading, replaced
+from misread import Single, half_down, half_to_even, reading, replaced, turned, with_sign
 from motorcycle import is_level, is_pass, mean_quarters, refuse_no_level, refuse_sides, whole_decibels
 from motorcycle_groups import HIGHEST, LOWEST
 from reckon import HIGHEST_LEVEL, LOWEST_LEVEL, Refused, float_value, level_tenths, rounded
@@ -280,11 +280,6 @@ MEANS = replaced(
 
 # The limit.
 
-def with_sign(number):
-    """A number of 16 bits as one with a sign."""
-    return (number + 2 ** 15) % 2 ** 16 - 2 ** 15
-
-
 LIMITS = replaced(
     "is_pass",
     ("only a mean below the limit passes", lambda mean, limit: mean < 4 * limit),
@@ -296,7 +291,7 @@ LIMITS = replaced(
     ("the limit by 8 bits", lambda mean, limit: mean <= 4 * (limit % 2 ** 8)),
     ("the limit by 15 bits", lambda mean, limit: mean <= 4 * (limit % 2 ** 15)),
     ("the limit with a sign", lambda mean, limit: mean <= 4 * with_sign(limit)),
-    ("the limit's high byte first", lambda mean, limit: mean <= 4 * (limit // 256 + limit % 256 * 256)),
+    ("the limit's high byte first", lambda mean, limit: mean <= 4 * turned(limit)),
     ("the limit in quarters", lambda mean, limit: mean <= limit),
     ("the limit in tenths", lambda mean, limit: 10 * mean <= 4 * limit),
     ("a limit of 0 is none", lambda mean, limit: limit == 0 or is_pass(mean, limit)),

@@ -17,7 +17,7 @@ A file of lists has for each the limit, the number of cars and each car, in two 
 import os
 import sys
 
-from corpus import LEAST_OF_EACH, LINES, command, print_groups
+from corpus import LEAST_OF_EACH, LINES, command, example_inputs, print_groups, print_line
 from make import of_groups
 from production_groups import GROUPS
 
@@ -110,15 +110,9 @@ EXAMPLES = (
 )
 
 
-def example_lists():
-    """The lists of the examples; fails if the reckoner gives anything else."""
-    lists = []
-    for words, expected in EXAMPLES:
-        limit, *cars = (int(word) for word in words.split())
-        if line(limit, cars) != expected:
-            raise SystemExit(f"{words}: should give {expected}, the reckoner has {line(limit, cars)}")
-        lists.append((limit, cars))
-    return lists
+def list_of(limit, *cars):
+    """A list from the numbers of the command line."""
+    return limit, list(cars)
 
 
 # The lists and their lines.
@@ -131,7 +125,7 @@ ANSWERS = ("OPEN 1 of none", "CONFORMS 0 of 1", "OPEN 2 of 1", "OPEN 1 of 2", "C
 
 def all_lists():
     """Each list with the name of its group."""
-    yield from (("examples", one) for one in example_lists())
+    yield from (("examples", one) for one in example_inputs(EXAMPLES, list_of, line))
     yield from of_groups(GROUPS, SEED)
 
 
@@ -162,20 +156,9 @@ def readings():
     return tell_apart([one for _, one in all_lists()])
 
 
-def print_line(words):
-    """Prints the line of a limit and cars in words, or which of them cannot be read."""
-    for word in words:
-        if not (word.isascii() and word.isdecimal()) or int(word) >= 2 ** 16:
-            print(f"{word} is no 16-bit number", file=sys.stderr)
-            return False
-    limit, *cars = (int(word) for word in words)
-    print(line(limit, cars))
-    return True
-
-
 def main(arguments):
     if arguments and not arguments[0].startswith("--"):
-        return print_line(arguments)
+        return print_line(arguments, lambda *numbers: line(*list_of(*numbers)))
     return command(arguments, __doc__, made, {"--spread": spread, "--readings": readings})
 
 

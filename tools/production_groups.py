@@ -3,6 +3,8 @@ car is its L_urban in whole dB."""
 
 from itertools import product
 
+from make import numbers
+
 HIGHEST = 65535
 HIGHEST_LIMIT_FAILED = HIGHEST - 2  # the highest limit that some car fails
 LONG, VERY_LONG = 40, (255, 256, 257, 258, 259, 260)  # cars; a number of cars in eight bits starts over at 256
@@ -12,11 +14,6 @@ WAYS = ((True,), (False, True, True), (False, True, False), (False, False, True)
 
 
 # Cars.
-
-def numbers(*candidates):
-    """Those of the candidates that 16 bits hold, each once."""
-    return sorted({number for number in candidates if 0 <= number <= HIGHEST})
-
 
 def meeting(random, limit):
     """A car that meets the requirement, most often at the edge."""

@@ -9,7 +9,7 @@ from statistics import median
 
 import misread
 import production
-from misread import half_down, reading, replaced
+from misread import half_down, reading, replaced, turned, with_sign
 from production import cars_taken, cars_wanted, conforms, meets, refusal, results, status
 
 CONFORMS, FAILS = "CONFORMS", "DOES-NOT-CONFORM"
@@ -17,16 +17,6 @@ paper = production.evaluate
 
 
 # The requirement.
-
-def with_sign(number):
-    """A number of 16 bits as one with a sign."""
-    return (number + 2 ** 15) % 2 ** 16 - 2 ** 15
-
-
-def turned(number):
-    """A number of 16 bits with its two bytes turned."""
-    return number // 256 + number % 256 * 256
-
 
 REQUIREMENTS = replaced(
     "meets",

@@ -1,5 +1,5 @@
-/* Checks what ruthimpo.h says, on the worked sheet and its line, the two files that its arguments name, on motorcycles and on
- * production checks. */
+/* Checks what ruthimpo.h says, on the worked sheet and its line, the two files that its arguments name, on motorcycles, on
+ * production checks and on lorries. */
 #define _POSIX_C_SOURCE 200809L
 #include "ruthimpo.h"
 
@@ -323,6 +323,141 @@ static void check_production(void) {
     check_lists();
 }
 
+/* A lorry by its numbers, of which two axles have the first four, with its masses unless it is refused. */
+struct lorry {
+    uint16_t power, front, rear, rear_max, own;
+    enum ruthimpo_refusal refusal;
+    uint64_t mass, load, lowest, highest;
+};
+
+static const struct lorry two_axles[] = {
+    /* 50 kg per kW; limited by the rear axle, with a maximum of each remainder modulo 4; no load */
+    {2000, 4000, 3000, 11500, 0, RUTHIMPO_ACCEPTED, 100000000, 29250000, 95000000, 105000000},
+    {3000, 4000, 3000, 11500, 0, RUTHIMPO_ACCEPTED, 127000000, 56250000, 120650000, 133350000},
+    {3000, 4000, 3000, 11501, 0, RUTHIMPO_ACCEPTED, 127007500, 56257500, 120657125, 133357875},
+    {3000, 4000, 3000, 11502, 0, RUTHIMPO_ACCEPTED, 127015000, 56265000, 120664250, 133365750},
+    {3000, 4000, 3000, 11503, 0, RUTHIMPO_ACCEPTED, 127022500, 56272500, 120671375, 133373625},
+    {1000, 4000, 3000, 11500, 0, RUTHIMPO_ACCEPTED, 70750000, 0, 67212500, 74287500},
+    /* 7,075 kg by 50 kg per kW: the extra is -1, 0 and 1 kg */
+    {1415, 4001, 3000, 11500, 0, RUTHIMPO_ACCEPTED, 70760000, 0, 67222000, 74298000},
+    {1415, 4000, 3001, 11500, 0, RUTHIMPO_ACCEPTED, 70760000, 0, 67222000, 74298000},
+    {1415, 4000, 3000, 11500, 0, RUTHIMPO_ACCEPTED, 70750000, 0, 67212500, 74287500},
+    {1415, 4000, 2999, 11500, 0, RUTHIMPO_ACCEPTED, 70750000, 10000, 67212500, 74287500},
+    {1415, 3999, 3000, 11500, 0, RUTHIMPO_ACCEPTED, 70750000, 10000, 67212500, 74287500},
+    /* 12,700 kg by 50 kg per kW: the extra and the rear axle are at 75% of its maximum, and as near to it as a quarter of a kg */
+    {2540, 4001, 3000, 11500, 0, RUTHIMPO_ACCEPTED, 127000000, 56240000, 120650000, 133350000},
+    {2540, 4000, 3000, 11500, 0, RUTHIMPO_ACCEPTED, 127000000, 56250000, 120650000, 133350000},
+    {2540, 3999, 3000, 11500, 0, RUTHIMPO_ACCEPTED, 126990000, 56250000, 120640500, 133339500},
+    {2540, 4000, 3000, 11501, 0, RUTHIMPO_ACCEPTED, 127000000, 56250000, 120650000, 133350000},
+    {2540, 3999, 3000, 11501, 0, RUTHIMPO_ACCEPTED, 126997500, 56257500, 120647625, 133347375},
+    {2540, 3999, 3000, 11502, 0, RUTHIMPO_ACCEPTED, 127000000, 56260000, 120650000, 133350000},
+    {2540, 3998, 3000, 11502, 0, RUTHIMPO_ACCEPTED, 126995000, 56265000, 120645250, 133344750},
+    {2540, 3998, 3000, 11503, 0, RUTHIMPO_ACCEPTED, 127000000, 56270000, 120650000, 133350000},
+    {2540, 3997, 3000, 11503, 0, RUTHIMPO_ACCEPTED, 126992500, 56272500, 120642875, 133342125},
+    /* the unladen rear axle beside 75% of its maximum, with an extra and without */
+    {3000, 4000, 8625, 11500, 0, RUTHIMPO_ACCEPTED, 127000000, 0, 120650000, 133350000},
+    {0, 4000, 8625, 11500, 0, RUTHIMPO_ACCEPTED, 127000000, 0, 120650000, 133350000},
+    {3000, 4000, 8626, 11500, 0, RUTHIMPO_REAR_OVERLOADED, 0, 0, 0, 0},
+    {0, 4000, 8626, 11500, 0, RUTHIMPO_REAR_OVERLOADED, 0, 0, 0, 0},
+    {3000, 4000, 8625, 11501, 0, RUTHIMPO_ACCEPTED, 127007500, 7500, 120657125, 133357875},
+    {3000, 4000, 8626, 11501, 0, RUTHIMPO_REAR_OVERLOADED, 0, 0, 0, 0},
+    {3000, 4000, 8626, 11502, 0, RUTHIMPO_ACCEPTED, 127015000, 5000, 120664250, 133365750},
+    {3000, 4000, 8627, 11502, 0, RUTHIMPO_REAR_OVERLOADED, 0, 0, 0, 0},
+    {3000, 4000, 8627, 11503, 0, RUTHIMPO_ACCEPTED, 127022500, 2500, 120671375, 133373625},
+    {3000, 4000, 8628, 11503, 0, RUTHIMPO_REAR_OVERLOADED, 0, 0, 0, 0},
+    /* the ends of 16 bits, and sums beyond them */
+    {0, 0, 0, 0, 0, RUTHIMPO_ACCEPTED, 750000, 0, 712500, 787500},
+    {15, 0, 0, 0, 0, RUTHIMPO_ACCEPTED, 750000, 0, 712500, 787500},
+    {16, 0, 0, 0, 0, RUTHIMPO_ACCEPTED, 750000, 0, 712500, 787500},
+    {16, 0, 0, 65535, 0, RUTHIMPO_ACCEPTED, 800000, 50000, 760000, 840000},
+    {0, 0, 0, 65535, 0, RUTHIMPO_ACCEPTED, 750000, 0, 712500, 787500},
+    {65535, 0, 0, 65535, 0, RUTHIMPO_ACCEPTED, 492262500, 491512500, 467649375, 516875625},
+    {65535, 65535, 0, 0, 0, RUTHIMPO_ACCEPTED, 656100000, 0, 623295000, 688905000},
+    {65535, 0, 0, 1, 0, RUTHIMPO_ACCEPTED, 757500, 7500, 719625, 795375},
+    {65535, 0, 1, 1, 0, RUTHIMPO_REAR_OVERLOADED, 0, 0, 0, 0},
+    {65535, 0, 1, 2, 0, RUTHIMPO_ACCEPTED, 765000, 5000, 726750, 803250},
+    {0, 0, 1, 0, 0, RUTHIMPO_REAR_OVERLOADED, 0, 0, 0, 0},
+    {65535, 65535, 49151, 65535, 0, RUTHIMPO_ACCEPTED, 1147612500, 2500, 1090231875, 1204993125},
+    {0, 65535, 49151, 65535, 0, RUTHIMPO_ACCEPTED, 1147610000, 0, 1090229500, 1204990500},
+    {22952, 65535, 0, 65535, 0, RUTHIMPO_ACCEPTED, 1147600000, 491500000, 1090220000, 1204980000},
+    {65535, 65535, 49152, 65535, 0, RUTHIMPO_REAR_OVERLOADED, 0, 0, 0, 0},
+    {65535, 65535, 65535, 65535, 0, RUTHIMPO_REAR_OVERLOADED, 0, 0, 0, 0},
+    {0, 0, 65535, 0, 0, RUTHIMPO_REAR_OVERLOADED, 0, 0, 0, 0},
+    {13108, 40000, 20000, 60000, 0, RUTHIMPO_ACCEPTED, 655400000, 54650000, 622630000, 688170000},
+    {0, 40000, 30000, 40000, 0, RUTHIMPO_ACCEPTED, 700750000, 0, 665712500, 735787500},
+};
+
+static const struct lorry more_axles[] = {
+    /* a stand-in limited by its rear axle, one at 50 kg per kW, one without a load: the extra is 1, 0 and -1 kg */
+    {3000, 4000, 3000, 11500, 9000, RUTHIMPO_ACCEPTED, 127000000, 36250000, 120650000, 133350000},
+    {3000, 4000, 3000, 11500, 12624, RUTHIMPO_ACCEPTED, 127000000, 10000, 120650000, 133350000},
+    {3000, 4000, 3000, 11500, 12625, RUTHIMPO_ACCEPTED, 127000000, 0, 120650000, 133350000},
+    {3000, 4000, 3000, 11500, 12626, RUTHIMPO_ACCEPTED, 127010000, 0, 120659500, 133360500},
+    {2000, 4000, 3000, 11500, 6000, RUTHIMPO_ACCEPTED, 100000000, 39250000, 95000000, 105000000},
+    {2000, 4000, 3000, 11500, 9924, RUTHIMPO_ACCEPTED, 100000000, 10000, 95000000, 105000000},
+    {2000, 4000, 3000, 11500, 9925, RUTHIMPO_ACCEPTED, 100000000, 0, 95000000, 105000000},
+    {2000, 4000, 3000, 11500, 9926, RUTHIMPO_ACCEPTED, 100010000, 0, 95009500, 105010500},
+    {1000, 4000, 3000, 11500, 6999, RUTHIMPO_ACCEPTED, 70750000, 10000, 67212500, 74287500},
+    {1000, 4000, 3000, 11500, 7000, RUTHIMPO_ACCEPTED, 70750000, 0, 67212500, 74287500},
+    {1000, 4000, 3000, 11500, 7001, RUTHIMPO_ACCEPTED, 70760000, 0, 67222000, 74298000},
+    {1000, 4000, 3000, 11500, 9000, RUTHIMPO_ACCEPTED, 90750000, 0, 86212500, 95287500},
+    /* a stand-in's mass in quarters of a kg: the extra is beside 0 */
+    {3000, 4000, 3000, 11501, 12625, RUTHIMPO_ACCEPTED, 127007500, 7500, 120657125, 133357875},
+    {3000, 4000, 3000, 11501, 12626, RUTHIMPO_ACCEPTED, 127010000, 0, 120659500, 133360500},
+    {3000, 4000, 3000, 11502, 12626, RUTHIMPO_ACCEPTED, 127015000, 5000, 120664250, 133365750},
+    {3000, 4000, 3000, 11502, 12627, RUTHIMPO_ACCEPTED, 127020000, 0, 120669000, 133371000},
+    {3000, 4000, 3000, 11503, 12627, RUTHIMPO_ACCEPTED, 127022500, 2500, 120671375, 133373625},
+    {3000, 4000, 3000, 11503, 12628, RUTHIMPO_ACCEPTED, 127030000, 0, 120678500, 133381500},
+    /* the stand-in is refused, whatever the lorry itself has */
+    {3000, 4000, 8626, 11500, 9000, RUTHIMPO_REAR_OVERLOADED, 0, 0, 0, 0},
+    {0, 4000, 8626, 11500, 0, RUTHIMPO_REAR_OVERLOADED, 0, 0, 0, 0},
+    {0, 4000, 8626, 11500, 65535, RUTHIMPO_REAR_OVERLOADED, 0, 0, 0, 0},
+    {65535, 65535, 65535, 65535, 65535, RUTHIMPO_REAR_OVERLOADED, 0, 0, 0, 0},
+    /* the ends of 16 bits */
+    {0, 0, 0, 0, 0, RUTHIMPO_ACCEPTED, 750000, 0, 712500, 787500},
+    {0, 0, 0, 0, 65535, RUTHIMPO_ACCEPTED, 656100000, 0, 623295000, 688905000},
+    {65535, 65535, 49151, 65535, 0, RUTHIMPO_ACCEPTED, 1147612500, 1146862500, 1090231875, 1204993125},
+    {65535, 65535, 49151, 65535, 65535, RUTHIMPO_ACCEPTED, 1147612500, 491512500, 1090231875, 1204993125},
+};
+
+typedef uint32_t call_on_lorry(const struct lorry *one, uint64_t *masses, size_t *place);
+
+static uint32_t call_two_axles(const struct lorry *one, uint64_t *masses, size_t *place) {
+    return ruthimpo_lorry_two_axles(one->power, one->front, one->rear, one->rear_max, masses, place);
+}
+
+static uint32_t call_more_axles(const struct lorry *one, uint64_t *masses, size_t *place) {
+    return ruthimpo_lorry_more_axles(one->power, one->front, one->rear, one->rear_max, one->own, masses, place);
+}
+
+static int are_masses_of(const struct lorry *one, const uint64_t *masses) {
+    return masses[RUTHIMPO_TEST_MASS] == one->mass && masses[RUTHIMPO_LOAD] == one->load &&
+           masses[RUTHIMPO_LOWEST_MASS] == one->lowest && masses[RUTHIMPO_HIGHEST_MASS] == one->highest;
+}
+
+/* A call whose masses and place stand between poisoned ones. A refusal keeps all four masses. */
+static void check_lorry(const struct lorry *one, call_on_lorry *call, const char *words, size_t at) {
+    uint64_t masses[6];
+    size_t places[3];
+    memset(masses, POISON, sizeof masses);
+    memset(places, POISON, sizeof places);
+    uint32_t refusal = call(one, &masses[1], &places[1]);
+    int is_accepted = one->refusal == RUTHIMPO_ACCEPTED;
+    check(refusal == one->refusal && places[1] == 0, words, at);
+    check(is_accepted ? are_masses_of(one, &masses[1]) : is_poison(&masses[1], 4 * sizeof *masses), "masses of a lorry", at);
+    check(is_poison(&masses[0], sizeof *masses) && is_poison(&masses[5], sizeof *masses), "what stands beside the masses", at);
+    check(is_poison(&places[0], sizeof *places) && is_poison(&places[2], sizeof *places), "what stands beside a lorry's place", at);
+}
+
+static void check_lorries(void) {
+    for (size_t n = 0; n < sizeof two_axles / sizeof *two_axles; n++) {
+        check_lorry(&two_axles[n], call_two_axles, "refusal and place of two axles", n);
+    }
+    for (size_t n = 0; n < sizeof more_axles / sizeof *more_axles; n++) {
+        check_lorry(&more_axles[n], call_more_axles, "refusal and place of more axles", n);
+    }
+}
+
 /* What a thread calls for: so many bytes of the shared sheet, and the line that they have. */
 struct task {
     size_t bytes, length;
@@ -345,7 +480,15 @@ static int conforms_after_three(void) {
     return status == RUTHIMPO_CONFORMS && wanted == 0;
 }
 
-/* Answers NULL if a call gives another line, another mean of a motorcycle or another status of a production check. */
+/* Whether a lorry has its masses in places of the thread's own. */
+static int has_its_masses(const struct lorry *one, call_on_lorry *call) {
+    uint64_t masses[4];
+    size_t place;
+    return call(one, masses, &place) == RUTHIMPO_ACCEPTED && are_masses_of(one, masses);
+}
+
+/* Answers NULL if a call gives another line, another mean of a motorcycle, another status of a production check or other masses of
+ * a lorry. */
 static void *calls_of_a_thread(void *argument) {
     static const uint32_t levels[4] = {0x42A00000, 0x42A20000, 0x42A00000, 0x42A00000}; /* 80.0, and 81.0 once */
     const struct task *task = argument;
@@ -360,6 +503,9 @@ static void *calls_of_a_thread(void *argument) {
             return NULL;
         }
         if (!conforms_after_three()) {
+            return NULL;
+        }
+        if (!has_its_masses(&two_axles[0], call_two_axles) || !has_its_masses(&more_axles[0], call_more_axles)) {
             return NULL;
         }
     }
@@ -406,6 +552,7 @@ int main(int count, char **names) {
     check_alignments();
     check_motorcycles();
     check_production();
+    check_lorries();
     check_threads();
     printf("%u of %u checks of ruthimpo.h hold\n", checks - differing, checks);
     return differing == 0 ? 0 : 1;

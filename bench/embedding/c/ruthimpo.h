@@ -1,4 +1,5 @@
-/* The proved evaluation of pass-by sheets, verdict on motorcycles and production checks, for programs in C on x86-64 Linux.
+/* The proved evaluation of pass-by sheets, verdict on motorcycles, production checks and test masses of lorries, for programs in C
+ * on x86-64 Linux.
  *
  * `rt staticlib embed` writes target/staticlib/libembed.a. A program links it, and needs nothing else for it:
  *
@@ -7,8 +8,8 @@
  * The archive calls memcpy and memset and no other function, and it can be linked into a shared library too.
  *
  * Threads: the library has no state. It keeps nothing between calls and takes no memory but the stack, for which a thread
- * with 16 KB has room. Any number of threads may call it at once, each with buffers and production checks of its own; they may
- * share a sheet.
+ * with 16 KB has room. Any number of threads may call it at once, each with buffers, production checks and masses of its own;
+ * they may share a sheet.
  *
  * Pointers: bytes may lie at any address, and a pointer to them may be NULL if the length with it is 0. A pointer without a
  * length, such as `place`, may not be NULL and is aligned as any other of its type. The caller sees to it that the bytes
@@ -34,7 +35,8 @@ extern "C" {
 
 /* Acceptance, or the number of a refusal. ruthimpo_evaluate answers 0 to 10 (document 01, "Refusals and what remains"),
  * ruthimpo_motorcycle 0, 22 or 23 (document 02, wish 14), ruthimpo_production_offer 0, 20 (document 02, wish 11)
- * or 255, ruthimpo_production_status 0 or 255; 255 is no number of the documents. */
+ * or 255, ruthimpo_production_status 0 or 255, ruthimpo_lorry_two_axles and ruthimpo_lorry_more_axles 0 or 21 (document 02,
+ * wish 13); 255 is no number of the documents. */
 enum ruthimpo_refusal {
     RUTHIMPO_ACCEPTED = 0,
     RUTHIMPO_SHORT_BUFFER = 1,        /* the result buffer has under 32 bytes */
@@ -49,6 +51,7 @@ enum ruthimpo_refusal {
     RUTHIMPO_NO_RULE = 9,             /* every gear is dropped, or none of the rules chooses one */
     RUTHIMPO_NO_CONSTANT_SPEED = 10,  /* the place is the lowest chosen gear without a constant-speed window */
     RUTHIMPO_CAR_AFTER_VERDICT = 20,  /* the place is the number of cars counted */
+    RUTHIMPO_REAR_OVERLOADED = 21,    /* the unladen load of the rear axle is over 75% of that axle's maximum */
     RUTHIMPO_LEVEL_OUT_OF_RANGE = 22, /* the place is the number of the first level that is not finite or not from 20.0 to 140.0 */
     RUTHIMPO_SIDE_FAR_APART = 23,     /* the place is the first side whose two levels, in whole dB, differ by more than 2 */
     RUTHIMPO_NO_SUCH_STAGE = 255      /* the stage of a production check is above 6 */
@@ -138,6 +141,35 @@ uint32_t ruthimpo_production_offer(struct ruthimpo_production *check, uint16_t l
 /* Answers 0 and puts one of ruthimpo_status into `status`, and the number of cars still wanted, 0 to 2, into `wanted`. Or, if the
  * stage is above 6, answers 255 and leaves `status` and `wanted` as they were. */
 uint32_t ruthimpo_production_status(const struct ruthimpo_production *check, uint8_t *status, uint8_t *wanted);
+
+/* Places of what the functions for lorries give, each exact, in ten-thousandths of a kg. */
+enum ruthimpo_mass {
+    RUTHIMPO_TEST_MASS = 0,
+    RUTHIMPO_LOAD = 1,         /* the test mass less the driver, 75 kg, and the unladen mass */
+    RUTHIMPO_LOWEST_MASS = 2,  /* 95% of the test mass */
+    RUTHIMPO_HIGHEST_MASS = 3  /* 105% of the test mass */
+};
+
+/* Gives the test mass of a lorry (N2, N3) of two axles: 50 kg per kW, but at least the unladen mass and the driver, and at most
+ * the sum of `front`, 75% of `rear_max` and the driver.
+ *
+ * `power` is in tenths of kW. `front` and `rear` are the unladen loads of the axles, and `rear_max` is the rear axle's maximum, in
+ * whole kg. Each may be any number.
+ *
+ * Answers 0 and puts the test mass, the load and both ends of the band into `masses`, at the places of ruthimpo_mass. Or, if `rear`
+ * is over 75% of `rear_max`, answers 21 and leaves all of `masses` as it was. `place` is 0 either way. */
+uint32_t ruthimpo_lorry_two_axles(uint16_t power, uint16_t front, uint16_t rear, uint16_t rear_max, uint64_t masses[4],
+                                  size_t *place);
+
+/* Gives the test mass of a lorry (N2, N3) of more axles: that of its two-axle stand-in, but at least its own unladen mass and the
+ * driver.
+ *
+ * The first four numbers are the stand-in's, as ruthimpo_lorry_two_axles takes them. `own` is the unladen mass of the lorry itself
+ * in whole kg, any number; the load is the test mass less the driver and `own`.
+ *
+ * Answers and writes as ruthimpo_lorry_two_axles does, 21 if that function answers 21 on the stand-in. */
+uint32_t ruthimpo_lorry_more_axles(uint16_t power, uint16_t front, uint16_t rear, uint16_t rear_max, uint16_t own,
+                                   uint64_t masses[4], size_t *place);
 
 #ifdef __cplusplus
 }

@@ -1,6 +1,6 @@
-//! The proved evaluation of pass-by sheets, verdict on motorcycles and production checks, for Rust programs on x86-64 Linux: safe
-//! functions over the static library of the crate `embed`, which `rt staticlib embed` writes. The library has no state, so any
-//! number of threads may call it at once.
+//! The proved evaluation of pass-by sheets, verdict on motorcycles, production checks and test masses of lorries, for Rust programs
+//! on x86-64 Linux: safe functions over the static library of the crate `embed`, which `rt staticlib embed` writes. The library has
+//! no state, so any number of threads may call it at once.
 
 use std::fmt;
 
@@ -29,9 +29,28 @@ extern "C" {
     pub fn ruthimpo_production_offer(check: *mut ProductionCheck, l_urban: u16, place: *mut usize) -> u32;
     /// The status of a production check as C has it: 0 or the number of the refusal.
     pub fn ruthimpo_production_status(check: *const ProductionCheck, status: *mut u8, wanted: *mut u8) -> u32;
+    /// The four masses of a lorry of two axles as C has them: 0 or the number of the refusal, and its place.
+    pub fn ruthimpo_lorry_two_axles(
+        power: u16,
+        front: u16,
+        rear: u16,
+        rear_max: u16,
+        masses: *mut u64,
+        place: *mut usize,
+    ) -> u32;
+    /// Those of a lorry of more axles, by its two-axle stand-in and its own unladen mass.
+    pub fn ruthimpo_lorry_more_axles(
+        power: u16,
+        front: u16,
+        rear: u16,
+        rear_max: u16,
+        own: u16,
+        masses: *mut u64,
+        place: *mut usize,
+    ) -> u32;
 }
 
-/// A refusal of document 01 or of document 02, wishes 11 and 14, or that of a stage that no production check has: its number,
+/// A refusal of document 01 or of document 02, wishes 11, 13 and 14, or that of a stage that no production check has: its number,
 /// and the record (from 0), the gear, the level (from 1), the side (1 left, 2 right) or the number of cars counted that it names,
 /// or 0 if it names none.
 #[derive(Clone, Copy, Debug, PartialEq, Eq)]
@@ -53,6 +72,7 @@ impl Refusal {
     pub const NO_RULE: u32 = 9;
     pub const NO_CONSTANT_SPEED: u32 = 10;
     pub const CAR_AFTER_VERDICT: u32 = 20;
+    pub const REAR_OVERLOADED: u32 = 21;
     pub const LEVEL_OUT_OF_RANGE: u32 = 22;
     pub const SIDE_FAR_APART: u32 = 23;
     pub const NO_SUCH_STAGE: u32 = 255;
@@ -157,11 +177,54 @@ impl ProductionCheck {
     }
 }
 
+/// A lorry of two axles: its power in tenths of kW, and in whole kg the unladen loads of its axles and the rear axle's maximum.
+#[derive(Clone, Copy, Debug, PartialEq, Eq)]
+pub struct TwoAxles {
+    pub power: u16,
+    pub front: u16,
+    pub rear: u16,
+    pub rear_max: u16,
+}
+
+/// The test mass of a lorry, its load, and 95% and 105% of the test mass, each exact, in ten-thousandths of a kg.
+#[derive(Clone, Copy, Debug, PartialEq, Eq)]
+pub struct Masses {
+    pub mass: u64,
+    pub load: u64,
+    pub lowest: u64,
+    pub highest: u64,
+}
+
+/// The masses of a lorry (N2, N3) of two axles, as `c/ruthimpo.h` explains them.
+pub fn lorry_two_axles(lorry: TwoAxles) -> Result<Masses, Refusal> {
+    let TwoAxles { power, front, rear, rear_max } = lorry;
+    // SAFETY: the pointers are those that `masses_by` hands to the call.
+    masses_by(|masses, place| unsafe { ruthimpo_lorry_two_axles(power, front, rear, rear_max, masses, place) })
+}
+
+/// The masses of a lorry (N2, N3) of more axles, by its two-axle stand-in and its own unladen mass in whole kg.
+pub fn lorry_more_axles(stand_in: TwoAxles, own: u16) -> Result<Masses, Refusal> {
+    let TwoAxles { power, front, rear, rear_max } = stand_in;
+    // SAFETY: as in `lorry_two_axles`.
+    masses_by(|masses, place| unsafe { ruthimpo_lorry_more_axles(power, front, rear, rear_max, own, masses, place) })
+}
+
+/// What a call on a lorry gives. It is handed pointers to four masses and to a place, live, apart and aligned by their types.
+fn masses_by(call: impl FnOnce(*mut u64, *mut usize) -> u32) -> Result<Masses, Refusal> {
+    let (mut masses, mut place) = ([0; 4], 0);
+    let number = call(masses.as_mut_ptr(), &mut place);
+    let [mass, load, lowest, highest] = masses;
+    match number {
+        0 => Ok(Masses { mass, load, lowest, highest }),
+        _ => Err(Refusal { number, place }),
+    }
+}
+
 #[cfg(test)]
 mod tests {
     use super::*;
 
-    const NAMES: [(&str, u32); 17] = [
+    const NAMES: [(&str, u32); 18] = [
         ("SHORT_BUFFER", Refusal::SHORT_BUFFER),
         ("WRONG_SIZE", Refusal::WRONG_SIZE),
         ("NO_VEHICLE", Refusal::NO_VEHICLE),
@@ -173,6 +236,7 @@ mod tests {
         ("NO_RULE", Refusal::NO_RULE),
         ("NO_CONSTANT_SPEED", Refusal::NO_CONSTANT_SPEED),
         ("CAR_AFTER_VERDICT", Refusal::CAR_AFTER_VERDICT),
+        ("REAR_OVERLOADED", Refusal::REAR_OVERLOADED),
         ("LEVEL_OUT_OF_RANGE", Refusal::LEVEL_OUT_OF_RANGE),
         ("SIDE_FAR_APART", Refusal::SIDE_FAR_APART),
         ("NO_SUCH_STAGE", Refusal::NO_SUCH_STAGE),
@@ -248,6 +312,41 @@ mod tests {
                 assert_eq!(check, before);
                 assert_eq!(check.status() == Err(none), stage > 6);
             }
+        }
+    }
+
+    const OVERLOADED: Result<Masses, Refusal> = Err(Refusal { number: Refusal::REAR_OVERLOADED, place: 0 });
+
+    fn masses(mass: u64, load: u64, lowest: u64, highest: u64) -> Result<Masses, Refusal> {
+        Ok(Masses { mass, load, lowest, highest })
+    }
+
+    #[test]
+    fn a_lorry_of_two_axles_has_masses_or_a_refusal() {
+        let lorry = |power, front, rear, rear_max| lorry_two_axles(TwoAxles { power, front, rear, rear_max });
+        assert_eq!(lorry(2_000, 4_000, 3_000, 11_500), masses(100_000_000, 29_250_000, 95_000_000, 105_000_000));
+        assert_eq!(lorry(3_000, 4_000, 3_000, 11_500), masses(127_000_000, 56_250_000, 120_650_000, 133_350_000));
+        assert_eq!(lorry(3_000, 4_000, 3_000, 11_501), masses(127_007_500, 56_257_500, 120_657_125, 133_357_875));
+        assert_eq!(lorry(1_000, 4_000, 3_000, 11_500), masses(70_750_000, 0, 67_212_500, 74_287_500));
+        assert_eq!(lorry(3_000, 4_000, 8_625, 11_500), masses(127_000_000, 0, 120_650_000, 133_350_000));
+        assert_eq!(lorry(3_000, 4_000, 8_626, 11_500), OVERLOADED);
+        assert_eq!(lorry(0, 4_000, 8_626, 11_500), OVERLOADED);
+        assert_eq!(lorry(0, 0, 0, 0), masses(750_000, 0, 712_500, 787_500));
+        assert_eq!(lorry(65_535, 65_535, 49_151, 65_535), masses(1_147_612_500, 2_500, 1_090_231_875, 1_204_993_125));
+        assert_eq!(lorry(65_535, 65_535, 65_535, 65_535), OVERLOADED);
+    }
+
+    #[test]
+    fn a_lorry_of_more_axles_has_the_mass_of_its_stand_in_or_its_own() {
+        let stand_in = TwoAxles { power: 3_000, front: 4_000, rear: 3_000, rear_max: 11_500 };
+        let of_stand_in = |load| masses(127_000_000, load, 120_650_000, 133_350_000);
+        assert_eq!(lorry_more_axles(stand_in, 0), of_stand_in(126_250_000));
+        assert_eq!(lorry_more_axles(stand_in, 9_000), of_stand_in(36_250_000));
+        assert_eq!(lorry_more_axles(stand_in, 12_625), of_stand_in(0));
+        assert_eq!(lorry_more_axles(stand_in, 12_626), masses(127_010_000, 0, 120_659_500, 133_360_500));
+        assert_eq!(lorry_more_axles(stand_in, 65_535), masses(656_100_000, 0, 623_295_000, 688_905_000));
+        for own in [0, 9_000, 65_535] {
+            assert_eq!(lorry_more_axles(TwoAxles { rear: 8_626, ..stand_in }, own), OVERLOADED);
         }
     }
 }

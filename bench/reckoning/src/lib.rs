@@ -1,12 +1,15 @@
-//! Pass-by sheets, motorcycles and production checks in plain Rust, written from documents 001, 003, 01 and 02.
+//! Pass-by sheets, motorcycles, production checks and test masses of lorries in plain Rust, written from documents 001,
+//! 003, 004, 01 and 02.
 
 mod gears;
+mod lorry;
 mod motorcycle;
 mod production;
 pub mod reference;
 mod sheet;
 mod window;
 
+pub use lorry::{more_axles, two_axles, Masses, TwoAxles};
 pub use motorcycle::{motorcycle, Mean};
 pub use production::{production, Standing, Status};
 

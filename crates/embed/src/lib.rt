@@ -1,5 +1,7 @@
-// The evaluation, the verdict on the levels of a motorcycle and production checks, for programs in C and Rust. A slice is a pointer and a
-// length, an array a pointer, and an answer is numbers.
+// The evaluation, the verdict on the levels of a motorcycle, production checks and the test mass of lorries, for programs in C and Rust. A slice is
+// a pointer and a length, an array a pointer, and an answer is numbers.
+use lorry::Loading;
+use lorry::TwoAxles;
 use motorcycle::Verdict;
 use production::Check;
 use production::Restored;
@@ -14,9 +16,12 @@ ghost use Rattle.motorcycle.specs.Verdict.{verdictOf, verdictNumber, verdictPla
 ghost use Rattle.motorcycle.specs.Patterns.{levelsOf};
 ghost use Rattle.production.specs.Stages.{startOf};
 ghost use Rattle.production.specs.Numbers.{checkNumbers, restoredFrom};
+ghost use Rattle.lorry.specs.TestMass.{twoAxlesOf, moreAxlesOf, loadingNumber, loadingPlace};
+ghost use Rattle.lorry.specs.Numbers.{lorryOf};
 ghost use Rattle.embed.specs.Printed.{printedOf};
 ghost use Rattle.embed.specs.MeanAndPass.{meanOr, passOr};
 ghost use Rattle.embed.specs.CheckInNumbers.{offerCode, offerPlace, numbersAfter, statusCode, statusOr, wantedOr, OfferInNumbers, StatusInNumbers};
+ghost use Rattle.embed.specs.FourMasses.{massesOr};
 
 // Evaluates a sheet. Answers 0 and puts the result record into the first 32 bytes of `result`, or answers the number of the refusal
 // and leaves `result` as it was. The place of the refusal goes to `place`, 0 on success.
@@ -177,4 +182,79 @@ pub extern "C" fn ruthimpo_production_status(
     ensures annex { λ r. ⌜ StatusInNumbers (now (check .entry)) r (now (status .exit)) (now (wanted .exit)) ⌝ }
 {
     put_status(Check::restore(check[0], check[1]), status, wanted)
+}
+
+// A lorry of two axles, or a stand-in, from the numbers that are handed in.
+fn lorry_of(power: u16, front: u16, rear: u16, rear_max: u16) -> TwoAxles
+    ensures { λ r. ⌜ r ≡ lorryOf power front rear «rear_max» ⌝ }
+{
+    TwoAxles {
+        power,
+        front,
+        rear,
+        rear_max,
+    }
+}
+
+// Puts the masses of a lorry behind a pointer. A refusal leaves them as they were.
+fn put_masses(loading: Loading, masses: &mut [u64; 4])
+    ensures { λ _. ⌜ now (masses .exit) ≡ massesOr loading (now (masses .entry)) ⌝ }
+{
+    match loading {
+        Loading::Reckoned(given) => {
+            *masses = [given.mass.0, given.load.0, given.lowest.0, given.highest.0];
+        }
+        Loading::RearOverloaded => {}
+    }
+}
+
+// Puts the masses of a lorry and the place of its refusal behind two pointers, and answers the number of the refusal.
+fn put_loading(loading: Loading, masses: &mut [u64; 4], place: &mut usize) -> u32
+    ensures code { λ r. ⌜ r ≡ loadingNumber loading ⌝ }
+    ensures place { λ _. ⌜ now (place .exit) ≡ loadingPlace loading ⌝ }
+    ensures masses { λ _. ⌜ now (masses .exit) ≡ massesOr loading (now (masses .entry)) ⌝ }
+{
+    put_masses(loading, masses);
+    *place = loading.place();
+    loading.number() as u32
+}
+
+// Reckons the test mass of a lorry of two axles from its power in tenths of kW, the unladen loads of its axles and the maximum of the rear one in
+// kg. Answers 0 and puts the test mass, the load, 95% and 105% of the test mass, in ten-thousandths of a kg, into `masses`; or answers 21 and leaves
+// them as they were. `place` is 0 for either.
+#[no_mangle]
+pub extern "C" fn ruthimpo_lorry_two_axles(
+    power: u16,
+    front: u16,
+    rear: u16,
+    rear_max: u16,
+    masses: &mut [u64; 4],
+    place: &mut usize,
+) -> u32
+    ensures code { λ r. ⌜ r ≡ loadingNumber (twoAxlesOf (lorryOf power front rear «rear_max»)) ⌝ }
+    ensures place { λ _. ⌜ now (place .exit) ≡ loadingPlace (twoAxlesOf (lorryOf power front rear «rear_max»)) ⌝ }
+    ensures masses { λ _. ⌜ now (masses .exit) ≡ massesOr (twoAxlesOf (lorryOf power front rear «rear_max»)) (now (masses .entry)) ⌝ }
+{
+    let two_axles = lorry_of(power, front, rear, rear_max);
+    put_loading(lorry::two_axles(two_axles), masses, place)
+}
+
+// Reckons the test mass of a lorry of more axles from the numbers of its two-axle stand-in and its own unladen mass in kg. The answer is as for
+// two axles.
+#[no_mangle]
+pub extern "C" fn ruthimpo_lorry_more_axles(
+    power: u16,
+    front: u16,
+    rear: u16,
+    rear_max: u16,
+    own: u16,
+    masses: &mut [u64; 4],
+    place: &mut usize,
+) -> u32
+    ensures code { λ r. ⌜ r ≡ loadingNumber (moreAxlesOf (lorryOf power front rear «rear_max») own) ⌝ }
+    ensures place { λ _. ⌜ now (place .exit) ≡ loadingPlace (moreAxlesOf (lorryOf power front rear «rear_max») own) ⌝ }
+    ensures masses { λ _. ⌜ now (masses .exit) ≡ massesOr (moreAxlesOf (lorryOf power front rear «rear_max») own) (now (masses .entry)) ⌝ }
+{
+    let stand_in = lorry_of(power, front, rear, rear_max);
+    put_loading(lorry::more_axles(stand_in, own), masses, place)
 }

@@ -1,19 +1,23 @@
 //! Compares the proved library with two evaluations in Rust on random and damaged sheets, and with one of them on as many random
-//! fours of levels and lists of cars.
+//! fours of levels, lists of cars and lorries.
 //!
 //!     differential SHEETS COUNT [SEED]     SHEETS is the file of the corpus
 //!
 //! Each result buffer has bytes that an evaluation must keep: all of them on a refusal, those from 32 on on success.
-//! The sheet stays too. So do a motorcycle's levels, on a refusal its mean and pass, and what stands beside these; and so do a
-//! production check's limit, on a refusal its stage, and what stands beside it.
+//! The sheet stays too. So do a motorcycle's levels, on a refusal its mean and pass, and what stands beside these; so do a
+//! production check's limit, on a refusal its stage, and what stands beside it; and so do, on a refusal, a lorry's masses, and what
+//! stands beside them.
 
 use ruthimpo::ProductionCheck;
 use speed::cars::{any_list, CarList};
 use speed::changes::any_sheet;
 use speed::fours::{any_four, Four};
+use speed::lorries::{any_lorry, Lorry};
 use speed::random::Random;
 use speed::straight;
+use std::cmp::Ordering;
 use std::collections::BTreeMap;
+use std::fmt::Debug;
 use std::{env, fs, process::ExitCode};
 
 const POISON: u8 = 0xA5;
@@ -147,29 +151,56 @@ impl Judged {
     }
 }
 
-/// Compares so many motorcycles, as `compare_sheets` does.
-fn compare_motorcycles(random: &mut Random, count: usize) -> bool {
-    let mut answers: BTreeMap<String, usize> = BTreeMap::new();
-    for at in 0..count {
-        let four = any_four(random);
-        let (ours, reckoned) = (Judged::by_the_library(&four), Judged::by_the_reckoning(&four));
-        if ours != reckoned {
-            println!("motorcycle {at}, {four:?}: ours {ours:?}, reckoning {reckoned:?}");
-            return false;
-        }
-        *answers.entry(ours.name()).or_default() += 1;
+/// How often each answer came up, by its name.
+type Answers = BTreeMap<String, usize>;
+
+/// What the library gave, or how it differs from what the reckoning did.
+fn same<T: PartialEq + Debug>(ours: T, reckoned: T) -> Result<T, String> {
+    if ours == reckoned {
+        Ok(ours)
+    } else {
+        Err(format!("ours {ours:?}, reckoning {reckoned:?}"))
     }
-    let agreed = format!("{count} motorcycles: the proved evaluation and one in Rust gave the same answers");
-    all_came_up(&answers, 8, &agreed)
+}
+
+/// Tries so many of one kind, and counts their answers; prints what differs, if anything does, and then gives none.
+fn try_all<T: Debug>(
+    count: usize,
+    kind: &str,
+    mut any: impl FnMut() -> T,
+    try_one: impl Fn(&T, &mut Answers) -> Result<(), String>,
+) -> Option<Answers> {
+    let mut answers = Answers::new();
+    for at in 0..count {
+        let one = any();
+        if let Err(words) = try_one(&one, &mut answers) {
+            println!("{kind} {at}, {one:?}: {words}");
+            return None;
+        }
+    }
+    Some(answers)
 }
 
 /// Prints how often each answer came up, and that all agreed; whether as many answers did as there are.
-fn all_came_up(answers: &BTreeMap<String, usize>, all: usize, agreed: &str) -> bool {
+fn all_came_up(answers: &Answers, all: usize, agreed: &str) -> bool {
     for (name, found) in answers {
-        println!("{name:<26}{found:>9}");
+        println!("{name:<40}{found:>9}");
     }
     println!("{agreed}\n{} of {all} answers came up", answers.len());
     answers.len() == all
+}
+
+/// Judges a motorcycle, and counts the answer; what differs, if anything does.
+fn judge(four: &Four, answers: &mut Answers) -> Result<(), String> {
+    let judged = same(Judged::by_the_library(four), Judged::by_the_reckoning(four))?;
+    *answers.entry(judged.name()).or_default() += 1;
+    Ok(())
+}
+
+/// Compares so many motorcycles, as `compare_sheets` does.
+fn compare_motorcycles(random: &mut Random, count: usize) -> bool {
+    let agreed = format!("{count} motorcycles: the proved evaluation and one in Rust gave the same answers");
+    try_all(count, "motorcycle", || any_four(random), judge).is_some_and(|answers| all_came_up(&answers, 8, &agreed))
 }
 
 /// A production check after its last car: 0 or a refusal's number, its place, the limit, the status and the cars wanted.
@@ -243,7 +274,7 @@ impl Kept {
 }
 
 /// Follows a list of cars one at a time, and counts the answers; what differs, if anything does.
-fn follow(list: &CarList, answers: &mut BTreeMap<String, usize>) -> Result<(), String> {
+fn follow(list: &CarList, answers: &mut Answers) -> Result<(), String> {
     let mut kept = Kept::start(list.limit);
     let mut given = (0, 0);
     for count in 0..=list.cars.len() {
@@ -252,10 +283,8 @@ fn follow(list: &CarList, answers: &mut BTreeMap<String, usize>) -> Result<(), S
             given = kept.offer(list.cars[last]);
         }
         let after = kept.0;
-        let (ours, reckoned) = (kept.read(given), AfterCar::by_the_reckoning(list.limit, &list.cars[..count]));
-        if ours != reckoned {
-            return Err(format!("after {count} cars ours {ours:?}, reckoning {reckoned:?}"));
-        }
+        let ours = same(kept.read(given), AfterCar::by_the_reckoning(list.limit, &list.cars[..count]))
+            .map_err(|words| format!("after {count} cars {words}"))?;
         if kept.0 != after || [after[0], after[2]] != [Kept::POISONED; 2] || (given.0 != 0 && after != before) {
             return Err(format!("after {count} cars a check was not kept: {before:?}, {after:?}, {:?}", kept.0));
         }
@@ -266,17 +295,96 @@ fn follow(list: &CarList, answers: &mut BTreeMap<String, usize>) -> Result<(), S
 
 /// Compares so many production checks, as `compare_sheets` does.
 fn compare_production(random: &mut Random, count: usize) -> bool {
-    let mut answers: BTreeMap<String, usize> = BTreeMap::new();
-    for at in 0..count {
-        let list = any_list(random);
-        if let Err(words) = follow(&list, &mut answers) {
-            println!("production check {at}, {list:?}: {words}");
-            return false;
-        }
-    }
     let agreed =
         format!("{count} production checks: the proved ones and those in Rust gave the same answers after each car");
-    all_came_up(&answers, 10, &agreed)
+    try_all(count, "production check", || any_list(random), follow)
+        .is_some_and(|answers| all_came_up(&answers, 10, &agreed))
+}
+
+/// What a call on a lorry gives: 0 or a refusal's number, its place, and the four masses between poisoned numbers.
+#[derive(PartialEq, Eq, Debug)]
+struct Loaded {
+    number: u32,
+    place: usize,
+    masses: [u64; 6],
+}
+
+impl Loaded {
+    const POISONED: [u64; 6] = [0xA5A5_A5A5_A5A5_A5A5; 6];
+
+    fn by_the_library(call: impl FnOnce(*mut u64, *mut usize) -> u32) -> Loaded {
+        let mut given = Loaded { number: 0, place: usize::MAX, masses: Loaded::POISONED };
+        given.number = call(given.masses[1..5].as_mut_ptr(), &mut given.place);
+        given
+    }
+
+    fn by_the_reckoning(answer: Result<reckoning::Masses, reckoning::Refusal>) -> Loaded {
+        let mut given = Loaded { number: 0, place: 0, masses: Loaded::POISONED };
+        match answer {
+            Ok(reckoning::Masses { mass, load, lowest, highest }) => {
+                given.masses[1..5].copy_from_slice(&[mass, load, lowest, highest]);
+            }
+            Err((number, place)) => (given.number, given.place) = (number, place as usize),
+        }
+        given
+    }
+
+    fn mass(&self) -> u64 {
+        self.masses[1]
+    }
+
+    /// The answer by the case that it falls under, or its refusal.
+    fn name(&self, case: &str) -> String {
+        match self.number {
+            0 => case.into(),
+            number => format!("refusal {number} at {}", self.place),
+        }
+    }
+}
+
+/// What both give on a lorry of two axles, or what differs.
+fn two_axles(lorry: &Lorry) -> Result<Loaded, String> {
+    let Lorry { power, front, rear, rear_max, .. } = *lorry;
+    // SAFETY: the pointers are those of live places of their own, aligned by their types.
+    let ours = Loaded::by_the_library(|masses, place| unsafe {
+        ruthimpo::ruthimpo_lorry_two_axles(power, front, rear, rear_max, masses, place)
+    });
+    let reckoned = reckoning::two_axles(reckoning::TwoAxles { power, front, rear, rear_max });
+    same(ours, Loaded::by_the_reckoning(reckoned)).map_err(|words| format!("of two axles {words}"))
+}
+
+/// What both give on a lorry of more axles, or what differs.
+fn more_axles(lorry: &Lorry) -> Result<Loaded, String> {
+    let Lorry { power, front, rear, rear_max, own } = *lorry;
+    // SAFETY: as in `two_axles`.
+    let ours = Loaded::by_the_library(|masses, place| unsafe {
+        ruthimpo::ruthimpo_lorry_more_axles(power, front, rear, rear_max, own, masses, place)
+    });
+    let reckoned = reckoning::more_axles(reckoning::TwoAxles { power, front, rear, rear_max }, own);
+    same(ours, Loaded::by_the_reckoning(reckoned)).map_err(|words| format!("of more axles {words}"))
+}
+
+/// Loads a lorry of two axles and one of more that has it for its stand-in, and counts the answers; what differs, if anything does.
+fn load(lorry: &Lorry, answers: &mut Answers) -> Result<(), String> {
+    let (two, more) = (two_axles(lorry)?, more_axles(lorry)?);
+    // Two axles are above the target only without a load, and below it only if the rear axle limits the load.
+    let target = 50_000 * u64::from(lorry.power);
+    let case = match two.mass().cmp(&target) {
+        Ordering::Greater => "no load",
+        Ordering::Equal => "target",
+        Ordering::Less => "rear axle's limit",
+    };
+    let case_of_more = if more.mass() == two.mass() { format!("stand-in, {case}") } else { "own mass".into() };
+    *answers.entry(format!("two axles: {}", two.name(case))).or_default() += 1;
+    *answers.entry(format!("more axles: {}", more.name(&case_of_more))).or_default() += 1;
+    Ok(())
+}
+
+/// Compares so many lorries of two axles and as many of more, as `compare_sheets` does.
+fn compare_lorries(random: &mut Random, count: usize) -> bool {
+    let agreed =
+        format!("{count} lorries of two axles and as many of more: the proved masses and those in Rust are the same");
+    try_all(count, "lorry", || any_lorry(random), load).is_some_and(|answers| all_came_up(&answers, 9, &agreed))
 }
 
 fn main() -> ExitCode {
@@ -291,6 +399,7 @@ fn main() -> ExitCode {
     if compare_sheets(&mut random, &corpus, count)
         && compare_motorcycles(&mut random, count)
         && compare_production(&mut random, count)
+        && compare_lorries(&mut random, count)
     {
         ExitCode::SUCCESS
     } else {

@@ -1,0 +1,4 @@
+pub mod Cases
+pub mod Refused
+pub mod Exact
+mod Examples
