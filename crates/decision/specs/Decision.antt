@@ -102,7 +102,7 @@ decideWhole t q limit =
 unfoldable pub trackOf : Backgrounds → Vehicle → Track
 trackOf b v = record { backgrounds = b; rated = v .«rated_speed»; path = pathOf v }
 
--- rows 2 to 5 are the examination's; of the closing record nothing counts from here on but its backgrounds, which are in b
+-- rows 2 to 5 are the examination's; the closing record would give nothing but its backgrounds, and those are given as b
 unfoldable pub decideBy : Backgrounds → List ℕ → Examination → Decision
 decideBy b s (examination.Refused x) = Refused x
 decideBy b s (examination.Whole v z) = decideWhole (sessionOf s (trackOf b v)) (pmrOf (v .power) (v .mass)) (v .limit)
