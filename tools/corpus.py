@@ -16,10 +16,11 @@ import os
 import sys
 from collections import Counter
 
+from background_groups import rising_by_side, rising_on_both_sides
 from damage import damaged_sheets, raised
 from examples import example_sheets
-from groups import GROUPS, random_session
-from make import Random, beside_starts, of_groups
+from groups import GROUPS
+from make import Random, beside_starts, of_groups, random_session, with_right_backgrounds
 from reckon import Refused, chosen_records, excess, is_close, line, reckon, records_of, rise
 from window_groups import rising_at_steps
 
@@ -134,6 +135,7 @@ FEATURES = {
     "kp 0.00 from PMR 25.0": lambda numbers, _: len(numbers) == 13 and numbers[10] >= 250 and numbers[4] == 0,
     "fails its limit": lambda numbers, _: len(numbers) == 13 and numbers[12] == 0,
     "1,024 records": lambda _, sheet: len(sheet) == 32768,
+    "own background on the right": lambda numbers, sheet: len(numbers) == 13 and any(sheet[18:20] + sheet[-26:-24]),
     "16 gears": lambda _, sheet: len({record[1] for record in records_of(sheet)[1:-1] if record[0] == 2}) == 16,
 }
 
@@ -199,7 +201,8 @@ def check_rising(found):
 
 def check_steps():
     """Prints how many of the corpus's own pairs rise; returns whether demand 3 speaks of each of them and none falls."""
-    sheets = [sheet for group, sheet in corpus() if group == rising_at_steps.__name__]
+    pairs = {group.__name__ for group in (rising_at_steps, rising_by_side, rising_on_both_sides)}
+    sheets = [sheet for group, sheet in corpus() if group in pairs]
     found = [rise(first, second) for first, second in zip(sheets[::2], sheets[1::2])]
     risen, stayed = sum(by is not None and by > 0 for by in found), found.count(0)
     print(f"at the steps of the corrections: {risen} of {len(found)} pairs rise, {stayed} stay")
@@ -208,7 +211,9 @@ def check_steps():
 
 def demand_3():
     random = Random(SEED)
-    found = list(accepted(all_sheets() + [random_session(random) for _ in range(MORE_SESSIONS)]))
+    sessions = [random_session(random) for _ in range(MORE_SESSIONS)]
+    two_sided = [with_right_backgrounds(random, session) for session in sessions]
+    found = list(accepted(all_sheets() + sessions + two_sided))
     close = check_close([evaluation for _, evaluation in found])
     steps = check_steps()
     return check_rising(found) and steps and close

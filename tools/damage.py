@@ -1,8 +1,7 @@
 """Damaged variants of sheets, and changes of levels for pairs of sheets."""
 
 import sheets
-from groups import random_session
-from make import bits_of, changed, float_step, spoiled
+from make import BACKGROUND_PLACES, bits_of, changed, float_step, random_session, spoiled, with_right_backgrounds
 from reckon import ABSENT, ACCELERATION_RUN, CONSTANT_RUN, records_of
 
 LONGEST_BASE = 3000  # bytes: longer sheets are seldom taken as a base
@@ -103,19 +102,22 @@ def clamped_step(four, step):
 
 
 def other_vehicle_number(random, whole):
-    at = random.pick((4, 6, 8, 10, 12, 14))
+    at = random.pick((4, 6, 8, 10, 12, 14, 18))
     value = (whole[at] + 256 * whole[at + 1] + random.between(-40, 40)) % 65536
     return whole[:at] + value.to_bytes(2, "little") + whole[at + 2:]
 
 
 def other_background(random, whole):
-    level = random.between(380, 650)
-    return whole[:-28] + level.to_bytes(2, "little") + whole[-26:]
+    """One of the four fields."""
+    records = [bytearray(record) for record in records_of(whole)]
+    record, *places = random.pick(BACKGROUND_PLACES)
+    sheets.put(records[record], random.pick(places), random.between(380, 650))
+    return b"".join(records)
 
 
 ROUGH = (any_byte, one_bit, cut_short)
 GENTLE = (swapped, repeated, removed, spoiled_run, other_gear, other_speeds, other_engine_speed, other_levels,
-          other_levels, other_speeds, other_vehicle_number, other_background)
+          other_levels, other_speeds, other_vehicle_number, other_background, with_right_backgrounds)
 
 
 def damaged_sheets(random, bases, count):
@@ -126,7 +128,8 @@ def damaged_sheets(random, bases, count):
         if way < 3:
             yield bytes(random.below(256) for _ in range(random.below(200)))
         elif way < 20:
-            yield random_session(random)
+            whole = random_session(random)
+            yield with_right_backgrounds(random, whole) if random.chance(50) else whole
         elif way < 35:
             yield random.pick(ROUGH)(random, random.pick(short))
         else:

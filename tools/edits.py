@@ -215,12 +215,13 @@ def of(name, *changes):
 EQUIVALENT = {
     "32,769 bytes are no whole records": ["MOST_SHEET_BYTES: MOST_SHEET_BYTES = 32768 -> MOST_SHEET_BYTES = 32769"],
     "no number and no byte is below 0": [
-        "VEHICLE_NUMBERS: (12, 0, 1000) -> (12, -1, 1000)", "RUN_NUMBERS: (20, 0, 20000) -> (20, -1, 20000)",
-        "CLOSING_NUMBERS: (4, 0, 1000) -> (4, -1, 1000)", "are_zero: record[at] == 0 -> record[at] <= 0",
+        "VEHICLE_NUMBERS: (12, 0, 1000) -> (12, -1, 1000)", "VEHICLE_NUMBERS: (18, 0, 1000) -> (18, -1, 1000)",
+        "RUN_NUMBERS: (20, 0, 20000) -> (20, -1, 20000)", "CLOSING_NUMBERS: (4, 0, 1000) -> (4, -1, 1000)",
+        "CLOSING_NUMBERS: (6, 0, 1000) -> (6, -1, 1000)", "read_background: right == 0 -> right <= 0",
+        "are_zero: record[at] == 0 -> record[at] <= 0",
         *of("reading_layout", "kind == ABSENT -> kind <= ABSENT", "four == bytes(4) -> four <= bytes(4)"),
         *of("refuse_form", "len(sheet) % RECORD_BYTES != 0 -> len(sheet) % RECORD_BYTES > 0", "at == 0 -> at <= 0"),
         "read_reading: kind == ABSENT -> kind <= ABSENT"],
-    "the high byte of a limit up to 100 is 0": ["VEHICLE_UNNAMED: range(16, 32) -> range(15, 32)"],
     "nothing is taken off at 15 dB or above it": [
         "CORRECTIONS: {10: 5, 11: 4, 12: 3, 13: 2, 14: 1, 15: 0} -> {10: 5, 11: 4, 12: 3, 13: 2, 14: 1, 16: 0}"],
     "such a float is outside 20.0 to 140.0 either way": of(

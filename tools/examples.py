@@ -1,5 +1,5 @@
 #!/usr/bin/env python3
-"""Document 01's driven examples, those of document 02's wish 2, and each line of "Where the spreadsheet tempts".
+"""Document 01's driven examples, those of document 02's wishes 2 and 8, and each line of "Where the spreadsheet tempts".
 
     python3 tools/examples.py                prints each example; fails if the reckoner's answer is not the paper's
     python3 tools/examples.py --write DIR    writes stdout of the test program `driven`
@@ -68,6 +68,13 @@ def side_sheet(lefts, rights):
     return sheet(vehicle(), runs + four(CONSTANT_RUN, 3, 650))
 
 
+def sides_sheet(right_before=0, right_after=0, left_after=400):
+    """One gear of document 01's whole sheet, 2.0 louder on the right in acceleration and 1.0 at constant speed; 10 records."""
+    runs = [run(ACCELERATION_RUN, 3, tenths(700), tenths(720), 442, 545)] * 4
+    runs += [run(CONSTANT_RUN, 3, tenths(650), tenths(660))] * 4
+    return sheet(vehicle(right_background=right_before), runs, left_after, right_after)
+
+
 # Each example: what the paper says, in words; the paper's answer; the reckoner's answer.
 
 def roundings():
@@ -133,7 +140,37 @@ def whole_sheets():
     yield STAR + "whole sheet", "OK 3 3 4 78 29 719 658 70 106 149 667 149 1", line(worked_sheet())
 
 
-EXAMPLES = (roundings, corrections, windows, references, accelerations, gear_rules, whole_sheets)
+def sides_line(C):
+    """The line of `sides_sheet`: a' is 63,538,125 / 396,900, rounded 1.60; kp is 1 - 106/160, rounded 0.34; W is 72.0."""
+    return f"OK 1 3 0 100 34 720 {C} 70 106 149 667 160 1"
+
+
+def backgrounds():
+    """Wish 8: in words, the paper's line, and the sheet. L_urban is 72.0 - 0.34 x (72.0 - C)."""
+    # 72.0 - 0.34 x 6.0 is 69.96
+    yield "no background on the right: the left's, 40.0", sides_line(660), sides_sheet()
+    # d of the right is 10.0 at constant speed, so 0.5 off; 72.0 - 0.34 x 6.5 is 69.79
+    yield "right before 56.0: C 65.5", sides_line(655), sides_sheet(right_before=560)
+    yield "right after 56.0: C 65.5", sides_line(655), sides_sheet(right_after=560)
+    # d 9.9
+    yield "right before 56.1: refusal 10", "REFUSED 10 3", sides_sheet(right_before=561)
+    # d of the left is 11.0, of the right 12.0: 64.6 and 65.7; 72.0 - 0.34 x 6.3 is 69.858
+    yield "right before 0.1, left after 54.0: right 54.0", sides_line(657), sides_sheet(right_before=1, left_after=540)
+    # 64.6 on the left, nothing off on the right
+    yield "both rights 0.1, left after 54.0: right 0.1", sides_line(660), sides_sheet(right_before=1, right_after=1, left_after=540)
+    # 72.0 is not 10.0 above it: no acceleration run is valid
+    yield "right before 100.0: refusal 7", "REFUSED 7 3", sides_sheet(right_before=1000)
+    yield "right after 100.0: refusal 7", "REFUSED 7 3", sides_sheet(right_after=1000)
+    yield "right before 100.1: refusal 5", "REFUSED 5 0", sides_sheet(right_before=1001)
+    yield "right after 100.1: refusal 5", "REFUSED 5 9", sides_sheet(right_after=1001)
+
+
+def sides():
+    for words, paper, whole in backgrounds():
+        yield f"{words} (document 02)", paper, line(whole)
+
+
+EXAMPLES = (roundings, corrections, windows, references, accelerations, gear_rules, whole_sheets, sides)
 
 
 # Each temptation: in words; the paper's answer; the reckoner's; and what the spreadsheet would say.
@@ -241,6 +278,8 @@ def sheet_answers():
     yield side_sheet((700, 720, 720, 720), (700, 720, 720, 720)), "OK 1 3"
     yield side_sheet((700, 721, 721, 721), (721, 700, 700, 700)), "REFUSED 7 3"
     yield level_sheet("70.0", "70.0", "75.0", "70.0", "70.0"), "REFUSED 7 3"
+    for _, paper, whole in backgrounds():
+        yield whole, paper
 
 
 def words(answer):

@@ -1,12 +1,13 @@
 """The groups of sheets of the corpus. Each group is a generator of sheets from a pseudo-random source."""
 
+import background_groups as of_backgrounds
 import gear_groups as of_gears
 import sheet_groups as of_sheets
 import sheets
 import window_groups as of_windows
 from make import (Gear, acceleration_runs, car_of, changed, constant_runs, gear_runs, interleaved, loud_copy, one_gear_sheet,
-                  sheet_of)
-from reckon import a_ref_of, records_of
+                  random_session, sheet_of)
+from reckon import records_of
 from sheets import sheet, vehicle
 
 
@@ -71,20 +72,6 @@ def random_sessions(random):
         yield random_session(random)
 
 
-def random_session(random):
-    q = random.pick((random.between(50, 249), random.between(250, 1200), random.between(250, 6000)))
-    R = a_ref_of(q)
-    car = car_of(random, q, background=random.between(380, 560), rated_speed=5000)
-    count = random.pick((1, 2, 2, 2, 3))
-    a = R + random.between(-5, 80 if count > 1 else 20)
-    gears = []
-    for gear in range(2, 2 + count):
-        C = random.between(600, 680) if random.chance(93) else None
-        gears.append(Gear(gear, max(a, 0), random.between(640, 740), C, random.pick((4000,) * 11 + (5001,))))
-        a -= random.between(0, 60) if random.chance(10) else random.between(15, 90)
-    return sheet_of(random, car, gears)
-
-
 GROUPS = (
     of_sheets.sizes, of_sheets.first_bytes, of_sheets.last_records, of_sheets.vehicle_layouts, of_sheets.run_layouts,
     of_sheets.reading_layouts, of_sheets.closing_layouts, of_sheets.broken_twice, of_sheets.middle_kinds,
@@ -110,5 +97,13 @@ GROUPS = (
     of_windows.set_aside_between, of_gears.equal_levels_by_rule, of_gears.rule_2_kp_halves,
     of_gears.rule_4_levels, of_gears.kp_rounded_first, of_windows.each_tenth_of_d,
     of_windows.each_tenth_of_d_on_one_side, of_windows.floats_at_steps, of_windows.spans_within_by_rounding,
-    of_windows.spans_within_by_dropping, of_windows.rising_at_steps,
+    of_windows.spans_within_by_dropping, of_windows.rising_at_steps, of_backgrounds.each_tenth_of_d_by_side,
+    of_backgrounds.edges_on_both_sides, of_backgrounds.quieter_side_alone, of_backgrounds.near_run_among_five,
+    of_backgrounds.spans_by_side, of_backgrounds.floats_at_steps_by_side, of_backgrounds.which_fields,
+    of_backgrounds.same_as_the_left_there, of_backgrounds.zero_against_one, of_backgrounds.right_numbers,
+    of_backgrounds.numbers_of_both_sides, of_backgrounds.right_bits, of_backgrounds.right_and_other_causes,
+    of_backgrounds.unnamed_beside_the_right, of_backgrounds.worked_sheet_on_the_right,
+    of_backgrounds.only_the_right_differs, of_backgrounds.mirrored_pairs, of_backgrounds.two_sided_sessions,
+    of_backgrounds.window_by_side, of_backgrounds.place_by_side, of_backgrounds.constant_speed_by_side,
+    of_backgrounds.rising_by_side, of_backgrounds.rising_on_both_sides,
 )

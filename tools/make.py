@@ -5,7 +5,7 @@ from typing import NamedTuple, Optional
 
 import sheets
 from reckon import (ABSENT, ACCELERATION_RUN, CONSTANT_RUN, HIGHEST_LEVEL, LEVEL, LOWEST_LEVEL, OVERLOAD, a_ref_of,
-                    a_urban_of, float_value, records_of, rounded)
+                    a_urban_of, float_value, number, records_of, rounded)
 
 MASK = 2 ** 64 - 1
 
@@ -294,3 +294,32 @@ def whole_with_runs(whole, change):
     """A sheet with every run record changed."""
     records = records_of(whole)
     return records[0] + b"".join(change(record) for record in records[1:-1]) + records[-1]
+
+
+# Sessions with nothing planned but their ranges.
+
+def random_session(random):
+    q = random.pick((random.between(50, 249), random.between(250, 1200), random.between(250, 6000)))
+    R = a_ref_of(q)
+    car = car_of(random, q, background=random.between(380, 560), rated_speed=5000)
+    count = random.pick((1, 2, 2, 2, 3))
+    a = R + random.between(-5, 80 if count > 1 else 20)
+    gears = []
+    for gear in range(2, 2 + count):
+        C = random.between(600, 680) if random.chance(93) else None
+        gears.append(Gear(gear, max(a, 0), random.between(640, 740), C, random.pick((4000,) * 11 + (5001,))))
+        a -= random.between(0, 60) if random.chance(10) else random.between(15, 90)
+    return sheet_of(random, car, gears)
+
+
+# The fields of a background by record, the first and the last: the left's place and the right's.
+BACKGROUND_PLACES = ((0, 12, 18), (-1, 4, 6))
+
+
+def with_right_backgrounds(random, whole):
+    """A sheet with a background of its own on the right: in each record none, the lowest, one near the left's, or any."""
+    records = [bytearray(record) for record in records_of(whole)]
+    for record, left_at, right_at in BACKGROUND_PLACES:
+        near = number(records[record], left_at) + random.between(-20, 40)
+        sheets.put(records[record], right_at, random.pick((0, 1, min(max(near, 0), 1000), random.between(380, 620))))
+    return b"".join(records)

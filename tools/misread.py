@@ -67,13 +67,19 @@ def for_kind(kind, changes):
     return {"find_window": find_window}
 
 
+def one_sided(run, vehicle, side):
+    """A run and its vehicle with the level and the background of one side on both."""
+    level, background = getattr(run, side), getattr(vehicle.background, side)
+    return run._replace(left=level, right=level), vehicle._replace(background=reckon.Sides(background, background))
+
+
 def for_side(side, changes):
     """A reading of the levels on one side only."""
     other = "right" if side == "left" else "left"
     def valid_run(run, vehicle):
         with reading(changes):
-            read = PAPER["valid_run"](run._replace(**{other: getattr(run, side)}), vehicle)
-        kept = PAPER["valid_run"](run._replace(**{side: getattr(run, other)}), vehicle)
+            read = PAPER["valid_run"](*one_sided(run, vehicle, side))
+        kept = PAPER["valid_run"](*one_sided(run, vehicle, other))
         return read and kept and read._replace(**{other: getattr(kept, other)})
     return {"valid_run": valid_run}
 

@@ -18,12 +18,13 @@ VEHICLE, ACCELERATION_RUN, CONSTANT_RUN, CLOSING = 1, 2, 3, 9
 ABSENT, LEVEL, OVERLOAD = 0, 1, 2
 
 # The sheet: 16-bit fields as (place in the record, lowest, highest), and the unnamed bytes.
-VEHICLE_NUMBERS = ((4, 10, 20000), (6, 300, 5000), (8, 100, 2000), (10, 500, 20000), (12, 0, 1000), (14, 50, 100))
+VEHICLE_NUMBERS = ((4, 10, 20000), (6, 300, 5000), (8, 100, 2000), (10, 500, 20000), (12, 0, 1000), (14, 50, 100),
+                   (18, 0, 1000))
 RUN_NUMBERS = ((16, 10, 1500), (18, 10, 1500), (20, 0, 20000))
-CLOSING_NUMBERS = ((4, 0, 1000),)
-VEHICLE_UNNAMED = (3, *range(16, 32))
+CLOSING_NUMBERS = ((4, 0, 1000), (6, 0, 1000))
+VEHICLE_UNNAMED = (3, 16, 17, *range(20, 32))
 RUN_UNNAMED = (*range(5, 8), *range(22, 32))
-CLOSING_UNNAMED = (1, *range(6, 32))
+CLOSING_UNNAMED = (1, *range(8, 32))
 
 LOWEST_LEVEL, HIGHEST_LEVEL = Fraction(20), Fraction(140)
 CORRECTIONS = {10: 5, 11: 4, 12: 3, 13: 2, 14: 1, 15: 0}  # whole dB nearest to d: tenths taken off (step 2)
@@ -41,13 +42,18 @@ class Refused(Exception):
         self.number, self.place = number, place
 
 
+class Sides(NamedTuple):
+    left: int
+    right: int
+
+
 class Vehicle(NamedTuple):
     from_pp: bool
     power: int
     mass: int
     length: int
     rated_speed: int
-    background: int
+    background: Sides
     limit: int
 
 
@@ -188,10 +194,18 @@ def refuse_form(sheet):
             raise Refused(5, at)
 
 
+def read_background(record, left_at, right_at):
+    """A record's background on each side: a zero on the right stands for the left's (document 02, wish 8)."""
+    left, right = number(record, left_at), number(record, right_at)
+    return Sides(left, left if right == 0 else right)
+
+
 def read_vehicle(first, last):
-    """The vehicle, with the larger of the two backgrounds (step 2)."""
+    """The vehicle, with the larger background of each side, before or after (step 2; document 02, wish 8)."""
+    before, after = read_background(first, 12, 18), read_background(last, 4, 6)
     return Vehicle(from_pp=first[2] == 1, power=number(first, 4), mass=number(first, 6), length=number(first, 8),
-                   rated_speed=number(first, 10), background=max(number(first, 12), number(last, 4)),
+                   rated_speed=number(first, 10),
+                   background=Sides(max(before.left, after.left), max(before.right, after.right)),
                    limit=number(first, 14))
 
 
@@ -233,11 +247,11 @@ def run_acceleration(run, vehicle):
 
 
 def valid_run(run, vehicle):
-    """Step 3: the run's corrected levels and acceleration, or None if it is not valid."""
+    """Step 3, by each side's own background: corrected levels and acceleration, or None if the run is not valid."""
     if run.struck or run.left.kind != LEVEL or run.right.kind != LEVEL:
         return None
-    left = corrected(run.left.value, vehicle.background)
-    right = corrected(run.right.value, vehicle.background)
+    left = corrected(run.left.value, vehicle.background.left)
+    right = corrected(run.right.value, vehicle.background.right)
     if left is None or right is None:
         return None
     return ValidRun(run.record, left, right, run_acceleration(run, vehicle), run.engine_speed)

@@ -6,14 +6,16 @@
     python3 tools/sheet.py make TABLE > SHEET     the sheet of a table, byte for byte; nothing if a cell cannot be read
 
 A dash stands for standard input. The table has a row for each record and a column for each field, in any order. A blank
-level is four zero bytes, as an absent reading has; every other field of the row's kind needs its cell. The cells:
+level is four zero bytes, as an absent reading has. A blank right background is zero, which means the left's of the same
+record; its column may be missing. Every other field of the row's kind needs its cell. The cells:
 
     words          kind, category, start line, struck and readings, as `show` prints them; a byte with no word is its number
     numbers        in the column's unit, with a decimal point: 44.2
     levels         decimals, for which the nearest 32-bit float is taken: 72.25; or the float's bits: 0x7FC00000
     other bytes    the bytes that have no column, by their place in the record: 5=01 22=FF00
 
-The column "record" is for the reader only. A row of the kind `left over` has the bytes after the last whole record.
+The column "record" is for the reader only. A column "background before [dB(A)]" or "background after [dB(A)]" is read as
+the left's. A row of the kind `left over` has the bytes after the last whole record.
 """
 
 import csv
@@ -23,7 +25,7 @@ import signal
 import sys
 from dataclasses import dataclass
 from fractions import Fraction
-from functools import lru_cache
+from functools import lru_cache, partial
 from typing import NamedTuple
 
 from reckon import (ABSENT, ACCELERATION_RUN, CLOSING, CLOSING_NUMBERS, CONSTANT_RUN, HIGHEST_LEVEL, LEVEL,
@@ -58,7 +60,7 @@ def decimal_of(cell):
     return Fraction(cell)
 
 
-# The fields. Each turns its bytes into a cell and back, and says what document 01 allows in its place.
+# The fields. Each turns its bytes into a cell and back, and says what documents 01 and 02 allow in its place.
 
 @dataclass
 class Field:
@@ -110,6 +112,21 @@ class Number(Field):
 
     def allowed(self, record):
         return self.with_unit(f"{self.text(self.lowest)} to {self.text(self.highest)}")
+
+
+@dataclass
+class RightBackground(Number):
+    """Zero means the left's of the same record; its cell is blank, since nobody measured 0.0 dB(A)."""
+
+    left: Number = None
+
+    def cell(self, part):
+        return super().cell(part) if any(part) else ""
+
+    def shown(self, record):
+        if any(self.part(record)):
+            return super().shown(record)
+        return f"{self.with_unit(self.text(0))}, which means the left's: {self.left.shown(record)}"
 
 
 @dataclass
@@ -197,10 +214,17 @@ def gives(cell, four):
         return False
 
 
-def ranged(ranges, name, at, unit, decimals=0):
+def ranged(ranges, name, at, unit, decimals=0, field=Number):
     """A 16-bit number whose range the reckoner has."""
     lowest, highest = next(bounds for place, *bounds in ranges if place == at)
-    return Number(name, at, unit, decimals=decimals, lowest=lowest, highest=highest)
+    return field(name, at, unit, decimals=decimals, lowest=lowest, highest=highest)
+
+
+def backgrounds(ranges, when, left_at, right_at):
+    """The backgrounds of a record, left and right."""
+    left = ranged(ranges, f"left background {when}", left_at, "dB(A)", decimals=1)
+    of_left = partial(RightBackground, left=left)
+    return left, ranged(ranges, f"right background {when}", right_at, "dB(A)", decimals=1, field=of_left)
 
 
 READINGS = ((LEVEL, "level"), (OVERLOAD, "overload"), (ABSENT, "absent"))
@@ -212,7 +236,7 @@ VEHICLE_FIELDS = (
     ranged(VEHICLE_NUMBERS, "mass in running order", 6, "kg"),
     ranged(VEHICLE_NUMBERS, "length", 8, "cm"),
     ranged(VEHICLE_NUMBERS, "rated engine speed", 10, "per minute"),
-    ranged(VEHICLE_NUMBERS, "background before", 12, "dB(A)", decimals=1),
+    *backgrounds(VEHICLE_NUMBERS, "before", 12, 18),
     ranged(VEHICLE_NUMBERS, "limit", 14, "dB(A)"),
 )
 START_SPEED = ranged(RUN_NUMBERS, "speed at the start line", 16, "km/h", decimals=1)
@@ -229,7 +253,7 @@ RUN_FIELDS = (
     ranged(RUN_NUMBERS, "highest engine speed", 20, "per minute"),
 )
 RUNS = Number("number of runs", 2)
-CLOSING_FIELDS = (RUNS, ranged(CLOSING_NUMBERS, "background after", 4, "dB(A)", decimals=1))
+CLOSING_FIELDS = (RUNS, *backgrounds(CLOSING_NUMBERS, "after", 4, 6))
 
 RUN_KINDS = ((ACCELERATION_RUN, "acceleration run"), (CONSTANT_RUN, "constant-speed run"))
 RUN_KIND = Choice("kind", 0, words=RUN_KINDS)
@@ -366,6 +390,7 @@ def shown_sheet(sheet):
 
 RECORD, OTHER_BYTES, LEFT_OVER = "record", "other bytes", "left over"
 COLUMNS = (RECORD, KIND.name, *(field.column() for field in (*VEHICLE_FIELDS, *RUN_FIELDS, *CLOSING_FIELDS)), OTHER_BYTES)
+WITHOUT_SIDE = {f"background {when} [dB(A)]": f"left background {when} [dB(A)]" for when in ("before", "after")}
 
 
 def row_of(at, record):
@@ -399,7 +424,7 @@ def rows_of(text):
         raise Unreadable(f"no table: {error}") from error
     if not rows:
         raise Unreadable("no table: it is empty")
-    header = rows[0]
+    header = [WITHOUT_SIDE.get(column, column) for column in rows[0]]
     check_header(header)
     for at, row in enumerate(rows[1:], start=2):
         if any(row[len(header):]):
@@ -433,9 +458,9 @@ def left_over_of(cells):
 
 
 def field_bytes(cells, field):
-    """The bytes of a field. A level alone may be blank."""
+    """The bytes of a field. A level or a right background alone may be blank."""
     part = read_cell(cells, field.column(), field.bytes_of)
-    if part is None and not isinstance(field, Level):
+    if part is None and not isinstance(field, (Level, RightBackground)):
         raise Unreadable(f"column {field.column()!r} is blank")
     return part or bytes(field.size)
 

@@ -21,22 +21,51 @@ from sheet import FIELDS, Unreadable, faults_of, level_bytes, level_cell, sheet_
 TOOL = os.path.join(os.path.dirname(os.path.abspath(__file__)), "sheet.py")
 LONGEST_RANDOM = 200  # bytes
 
-# A table as a crew may write it: columns in an order of their own, blank rows, and a blank level of an absent reading.
+# A table as a crew may write it: columns in an order of their own, blank rows, a blank level of an absent reading, and a blank
+# right background, which means the left's.
 HEADER = ("kind,gear,left reading,left level [dB(A)],right reading,right level [dB(A)],struck,speed at the start line [km/h],"
           "speed at BB' [km/h],highest engine speed [per minute],category,start line,power [kW],mass in running order [kg],"
-          "length [cm],rated engine speed [per minute],background before [dB(A)],limit [dB(A)],background after [dB(A)],number of runs")
+          "length [cm],rated engine speed [per minute],left background before [dB(A)],limit [dB(A)],left background after [dB(A)],"
+          "right background after [dB(A)],right background before [dB(A)],number of runs")
 BY_HAND = f"""{HEADER}
-vehicle,,,,,,,,,,N1,PP',86.5,2049,450,5500,40.3,72,,
+vehicle,,,,,,,,,,N1,PP',86.5,2049,450,5500,40.3,72,,,39.1,
 ,,,,,,,,,,,,,,,,,,,
 acceleration run,3,level,72.25,overload,139.9,no,44.2,54.5,4000
 constant-speed run,4,absent,,level,65.1875,yes,50,50.0,0
 
-closing,,,,,,,,,,,,,,,,,,38,2
+closing,,,,,,,,,,,,,,,,,,38,,,2
 """
+
 FROM_HAND = sheets.sheet(
-    sheets.vehicle(2, 1, 865, 2049, 450, 5500, 403, 72),
+    sheets.vehicle(2, 1, 865, 2049, 450, 5500, 403, 72, 391),
     [sheets.run(ACCELERATION_RUN, 3, sheets.decibels("72.25"), sheets.decibels("139.9"), 442, 545, 4000, right_kind=OVERLOAD),
      sheets.run(CONSTANT_RUN, 4, bytes(4), sheets.decibels("65.1875"), 500, 500, 0, struck=1, left_kind=ABSENT)], 380)
+
+# Tables of a sheet without a run that has one background for both sides: columns of no side, of the left alone, of both.
+NO_SIDE = ("kind,category,start line,power [kW],mass in running order [kg],length [cm],rated engine speed [per minute],limit [dB(A)],"
+           "number of runs,background before [dB(A)],background after [dB(A)]")
+LEFT_SIDE = NO_SIDE.replace("background", "left background")
+BOTH_SIDES = f"{LEFT_SIDE},right background before [dB(A)],right background after [dB(A)]"
+VEHICLE_CELLS, CLOSING_CELLS = "vehicle,N1,PP',86.5,2049,450,5500,72,,40.3,", "closing,,,,,,,,0,,38"
+ONE_BACKGROUND = (
+    f"{NO_SIDE}\n{VEHICLE_CELLS}\n{CLOSING_CELLS}",
+    f"{LEFT_SIDE}\n{VEHICLE_CELLS}\n{CLOSING_CELLS}",
+    f"{BOTH_SIDES}\n{VEHICLE_CELLS}\n{CLOSING_CELLS}",
+    f"{BOTH_SIDES}\n{VEHICLE_CELLS},0,\n{CLOSING_CELLS},,0.0",
+)
+FROM_ONE = sheets.sheet(sheets.vehicle(2, 1, 865, 2049, 450, 5500, 403, 72), [], 380)
+
+# Backgrounds at the ends of their range and of their bytes, beside these, and with the bytes of the highest swapped.
+ENDS = (0, 1, 255, 256, 999, 1000, 1001, 0xE803, 65535)
+
+# What `show` must say of a right background.
+SHOWN = (
+    (FROM_HAND, "    right background before   39.1 dB(A)"),
+    (FROM_HAND, "    right background after    0.0 dB(A), which means the left's: 38.0 dB(A)"),
+    (FROM_ONE, "    right background before   0.0 dB(A), which means the left's: 40.3 dB(A)"),
+    (FROM_ONE[:38] + b"\xE9\x03" + FROM_ONE[40:],
+     "  FAULT right background after, byte 6 (38 of the sheet): 100.1 dB(A); allowed: 0.0 to 100.0 dB(A)"),
+)
 
 # Floats by their bits, and the cell of each: the shortest decimal, or the bits where no decimal names the float.
 LEVEL_CELLS = ((0x42908000, "72.25"), (0x42940000, "74.0"), (0x430BE666, "139.9"), (0x428C4000, "70.125"), (0xC2910000, "-72.5"),
@@ -57,9 +86,12 @@ UNREADABLE = (
     (f"{HEADER}\n{RUN_ROW.replace('overload', 'over')}", "row 2, column 'right reading': 'over' "),
     (f"{HEADER}\n{RUN_ROW.replace('acceleration', 'slow')}", "row 2, column 'kind': 'slow run' "),
     (f"{HEADER}\n{VEHICLE_ROW.replace('vehicle,', 'vehicle,3')}", "row 2, column 'gear': '3' "),
+    (f"{HEADER}\n{VEHICLE_ROW.replace('39.1', '39.15')}", "row 2, column 'right background before [dB(A)]': '39.15' "),
+    (f"{HEADER}\n{CLOSING_ROW.replace(',,2', ',39.1,2')}", "row 2, column 'right background before [dB(A)]': '39.1' "),
     (f"{HEADER}\n{VEHICLE_ROW},1", "row 2: "),
     (f"{HEADER},colour\n", "row 1: 'colour' "),
     (f"{HEADER},kind\n", "row 1: 'kind' "),
+    (f"{HEADER},background after [dB(A)]\n", "row 1: 'left background after [dB(A)]' is there twice"),
     (f"{HEADER},other bytes\n{VEHICLE_ROW},4=01", "row 2, column 'other bytes': '4=01' "),
     (f"{HEADER},other bytes\n{VEHICLE_ROW},31=0102", "row 2, column 'other bytes': '31=0102' "),
     ("kind,other bytes\n7,5=01 5=01", "row 2, column 'other bytes': '5=01 5=01' "),
@@ -74,10 +106,10 @@ UNREADABLE = (
 
 
 def blanked(row):
-    """A row with each of its cells blank in turn, but not a level's, and what must be said of it."""
+    """A row with each of its cells that may not be blank so in turn, and what must be said of it."""
     cells = row.split(",")
     for at, (column, cell) in enumerate(zip(HEADER.split(","), cells)):
-        if cell and "level" not in column:
+        if cell and "level" not in column and "right background" not in column:
             yield f"{HEADER}\n{','.join([*cells[:at], '', *cells[at + 1:]])}", f"row 2, column {column!r} is blank"
 
 
@@ -132,6 +164,15 @@ def changed_bytes():
             yield at, FROM_HAND[:at] + bytes([value]) + FROM_HAND[at + 1:]
 
 
+def backgrounds_at_ends():
+    """A sheet with each background at each of the ends."""
+    for at in (12, 18, len(FROM_HAND) - RECORD_BYTES + 4, len(FROM_HAND) - RECORD_BYTES + 6):
+        for value in ENDS:
+            sheet = bytearray(FROM_HAND)
+            sheets.put(sheet, at, value)
+            yield bytes(sheet)
+
+
 def may_be_named(fault, place):
     """Whether a change of the byte at a place of a record may cause a fault: by its field, its reading, its speeds."""
     if fault.name == "unnamed bytes":
@@ -181,10 +222,16 @@ def told(table):
 
 
 def check_by_hand():
-    hand = report("table written by hand gives its sheet", [table for table in (BY_HAND,) if sheet_of(table) != FROM_HAND], 1)
+    tables = ((BY_HAND, FROM_HAND), *((table, FROM_ONE) for table in ONE_BACKGROUND))
+    hand = report("tables written by hand give their sheets", [table for table, sheet in tables if sheet_of(table) != sheet], len(tables))
     unreadable = (*UNREADABLE, *BLANK)
     wrong = [(table, told(table)) for table, words in unreadable if not told(table).startswith(words)]
     return report("tables that cannot be read are told with row and column", wrong, len(unreadable)) and hand
+
+
+def check_shown():
+    wrong = [line for sheet, line in SHOWN if line not in shown_sheet(sheet)]
+    return report("lines on right backgrounds are shown", wrong, len(SHOWN))
 
 
 def tool(arguments, content):
@@ -217,9 +264,11 @@ def main(count=5000, seed=1):
         check_sheets("damaged sheets agree", damaged_sheets(random, stored, count)),
         check_sheets("random byte strings agree", random_bytes(random, count // 10)),
         check_sheets("sheets with one byte changed agree", (sheet for _, sheet in changed_bytes())),
+        check_sheets("sheets with a background at an end agree", backgrounds_at_ends()),
         check_names(),
         check_levels(random, count),
         check_by_hand(),
+        check_shown(),
         check_commands(),
     ])
 

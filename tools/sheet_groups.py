@@ -57,7 +57,12 @@ def last_records(random):
 
 # Refusal 5, with both sides of each field's range.
 
+# Bytes of the right's background (document 02, wish 8); `background_groups` has its ranges.
+RIGHT_BEFORE, RIGHT_AFTER = (18, 19), (6, 7)
+
+
 def vehicle_layouts(random):
+    """Each field, and each byte from 16 on, unnamed or of the right's background."""
     whole = short_sheet()
     for at, values in ((1, (0, 1, 2, 3, 255)), (2, (0, 1, 2, 255)), (3, (1, 255))):
         for value in values:
@@ -104,6 +109,7 @@ def reading_layouts(random):
 
 
 def closing_layouts(random):
+    """The left's background, and each other byte but the run number's, unnamed or of the right's background."""
     whole = short_sheet()
     for background in (0, 1, 999, 1000, 1001, 65535):
         yield with_number(whole, 3, 4, background)
@@ -298,20 +304,23 @@ def high_bits(random):
 
 
 def range_ends(random):
-    """Both ends of each range of the vehicle, of a constant-speed run and of the closing record, and one past them."""
+    """Both ends of each range of the vehicle, of a constant-speed run and of the closing record, and one past them.
+
+    The right's backgrounds have groups of their own.
+    """
     whole = one_gear_sheet(random)
-    for record, numbers in ((0, VEHICLE_NUMBERS), (5, RUN_NUMBERS), (9, CLOSING_NUMBERS)):
-        for at, lowest, highest in numbers:
+    for record, numbers, others in ((0, VEHICLE_NUMBERS, RIGHT_BEFORE), (5, RUN_NUMBERS, ()), (9, CLOSING_NUMBERS, RIGHT_AFTER)):
+        for at, lowest, highest in (one for one in numbers if one[0] not in others):
             for value in (lowest - 1, lowest, highest, highest + 1):
                 if value >= 0:
                     yield with_number(whole, record, at, value)
 
 
 def unnamed_bytes(random):
-    """Refusal 5 for each unnamed byte of each kind of record."""
+    """Each unnamed byte of each kind of record, which is refusal 5, and in their places the bytes of the right's background."""
     whole = one_gear_sheet(random)
-    for record, places in ((0, VEHICLE_UNNAMED), (1, RUN_UNNAMED), (8, RUN_UNNAMED), (9, CLOSING_UNNAMED)):
-        for at in places:
+    for record, places in ((0, VEHICLE_UNNAMED + RIGHT_BEFORE), (1, RUN_UNNAMED), (8, RUN_UNNAMED), (9, CLOSING_UNNAMED + RIGHT_AFTER)):
+        for at in sorted(places):
             yield changed(whole, 32 * record + at, 1 << random.below(8))
 
 

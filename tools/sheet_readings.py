@@ -10,9 +10,9 @@ RUNS = (ACCELERATION_RUN, CONSTANT_RUN)
 # Fields: where a 16-bit number stands and how it is read.
 
 NUMBERS = (("power", (VEHICLE,), 4), ("mass", (VEHICLE,), 6), ("length", (VEHICLE,), 8), ("S", (VEHICLE,), 10),
-           ("background before", (VEHICLE,), 12), ("limit", (VEHICLE,), 14), ("start speed", RUNS, 16),
-           ("speed at BB'", RUNS, 18), ("engine speed", RUNS, 20), ("run number", (CLOSING,), 2),
-           ("background after", (CLOSING,), 4))
+           ("left background before", (VEHICLE,), 12), ("limit", (VEHICLE,), 14), ("right background before", (VEHICLE,), 18),
+           ("start speed", RUNS, 16), ("speed at BB'", RUNS, 18), ("engine speed", RUNS, 20), ("run number", (CLOSING,), 2),
+           ("left background after", (CLOSING,), 4), ("right background after", (CLOSING,), 6))
 WAYS = (("from its low byte alone", lambda record, at: record[at]),
         ("from its high byte alone", lambda record, at: 256 * record[at + 1]),
         ("high byte first", lambda record, at: 256 * record[at] + record[at + 1]),
@@ -163,13 +163,6 @@ OTHERS = simple(
     ("a category N1 starts from PP'", "read_vehicle", "from_pp=first[2] == 1", "from_pp=first[2] == 1 or first[1] == 2"),
     ("a category N1 has 1 dB more", "read_vehicle", "limit=number(first, 14)", "limit=number(first, 14) + (first[1] == 2)"),
     ("a category N1 has 25 kg more", "read_vehicle", "mass=number(first, 6)", "mass=number(first, 6) + 25 * (first[1] == 2)"),
-    ("background before only", "read_vehicle", "max(number(first, 12), number(last, 4))", "number(first, 12)"),
-    ("background after only", "read_vehicle", "max(number(first, 12), number(last, 4))", "number(last, 4)"),
-    ("the smaller background", "read_vehicle", "max(number(first, 12)", "min(number(first, 12)"),
-    ("the mean background", "read_vehicle", "max(number(first, 12), number(last, 4))",
-     "rounded(Fraction(number(first, 12) + number(last, 4), 2))"),
-    ("backgrounds in whole dB", "read_vehicle", "max(number(first, 12), number(last, 4))",
-     "max(number(first, 12), number(last, 4)) // 10 * 10"),
 )
 
 
@@ -190,7 +183,7 @@ def mended(sheet, number_, place):
         return joined(records[0], records[1:-1], b"\x09" + records[-1][1:])
     if number_ == 5 and PAPER["vehicle_layout"](records[0]):
         runs = [record for record in records[1:-1] if PAPER["run_layout"](record)]
-        return joined(records[0], runs, sheets.closing(0, min(number(records[-1], 4), 1000)))
+        return joined(records[0], runs, sheets.closing(0, *(min(number(records[-1], at), 1000) for at in (4, 6))))
     if number_ == 6:
         low = 1000 * number(records[0], 4) < 50 * number(records[0], 6)
         return with_part(sheet, 4, (50 if low else 6000).to_bytes(2, "little") + (1000).to_bytes(2, "little"))

@@ -1,4 +1,7 @@
-"""Building sheets from named fields (document 01, "The sheet")."""
+"""Building sheets from named fields (document 01, "The sheet"; document 02, wish 8).
+
+A background is the left's unless it is called the right's, and the right's is zero unless given: the same as the left's.
+"""
 
 from fractions import Fraction
 from math import isqrt
@@ -32,11 +35,13 @@ def put(record, at, value):
     record[at:at + 2] = value.to_bytes(2, "little")
 
 
-def vehicle(category=1, start_line=0, power=1000, mass=1500, length=450, rated_speed=6000, background=400, limit=72):
+def vehicle(category=1, start_line=0, power=1000, mass=1500, length=450, rated_speed=6000, background=400, limit=72,
+            right_background=0):
     record = bytearray(32)
     record[0:3] = bytes([VEHICLE, category, start_line])
     for at, value in zip(range(4, 16, 2), (power, mass, length, rated_speed, background, limit)):
         put(record, at, value)
+    put(record, 18, right_background)
     return bytes(record)
 
 
@@ -50,17 +55,18 @@ def run(kind, gear, left, right, start=500, end=500, engine=4000, struck=0, left
     return bytes(record)
 
 
-def closing(runs, background=400):
+def closing(runs, background=400, right_background=0):
     record = bytearray(32)
     record[0] = CLOSING
     put(record, 2, runs)
     put(record, 4, background)
+    put(record, 6, right_background)
     return bytes(record)
 
 
-def sheet(first, runs, background=400):
+def sheet(first, runs, background=400, right_background=0):
     """A sheet whose closing record has the right number of runs."""
-    return first + b"".join(runs) + closing(len(runs), background)
+    return first + b"".join(runs) + closing(len(runs), background, right_background)
 
 
 def speeds_for(a, distance=2450, lowest_end=10):

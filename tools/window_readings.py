@@ -114,6 +114,11 @@ def sides(run):
     return run.left.kind, run.right.kind
 
 
+def exchanged(pair):
+    """A run, or what else has a left and a right, with these exchanged."""
+    return pair._replace(left=pair.right, right=pair.left)
+
+
 TAKEN = [
     *(taken_for(f"a struck run counts{words}", test, lambda run: run._replace(struck=False)) for words, test in (
         ("", lambda run: True), (" at constant speed", lambda run: run.kind == CONSTANT_RUN),
@@ -130,7 +135,8 @@ TAKEN = [
     taken_for("an overload on the right is the left", lambda run: run.right.kind == OVERLOAD, lambda run: run._replace(right=run.left)),
     taken_for("the left is read for the right", lambda run: True, lambda run: run._replace(right=run.left)),
     taken_for("the right is read for the left", lambda run: True, lambda run: run._replace(left=run.right)),
-    taken_for("sides exchanged", lambda run: True, lambda run: run._replace(left=run.right, right=run.left)),
+    taken_for("levels exchanged", lambda run: True, exchanged),
+    ("sides exchanged", before("valid_run", lambda run, vehicle: (exchanged(run), vehicle._replace(background=exchanged(vehicle.background))))),
     *(taken_for(f"an absent reading is the level {level}", lambda run: ABSENT in sides(run), lambda run, level=level: run._replace(
         **{side: reckon.Reading(LEVEL, Fraction(level)) for side in ("left", "right") if getattr(run, side).kind == ABSENT}))
       for level in (0, 20)),

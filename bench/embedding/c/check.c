@@ -36,6 +36,11 @@ static int is_kept(const uint8_t *bytes, size_t from) {
     return is_poison(bytes + from, ROOM - from);
 }
 
+static void put(uint8_t *bytes, size_t at, unsigned number) {
+    bytes[at] = number & 0xFF;
+    bytes[at + 1] = number >> 8;
+}
+
 /* Changes of a 16-bit number of the worked sheet, each with its refusal. */
 static const struct {
     enum ruthimpo_refusal refusal;
@@ -51,6 +56,20 @@ static const struct {
     {RUTHIMPO_NOT_FALLING, 3, 32 * 9 + 18, 1500},         /* gear 4 reaches 150.0 km/h */
     {RUTHIMPO_NO_RULE, 0, 10, 3999},                      /* every gear turns above S */
     {RUTHIMPO_NO_CONSTANT_SPEED, 3, 32 * 13 + 2, 0x0101}, /* a constant-speed run of gear 3 is struck */
+    /* the right background, before and after: above its range, at the end of it, where no run is valid, and beside 55.2 and 55.5,
+     * over which the right levels at constant speed, 65.2 in gear 4 and 65.5 in gear 3, are 10.0 */
+    {RUTHIMPO_BROKEN_RECORD, 0, 18, 1001},
+    {RUTHIMPO_BROKEN_RECORD, 21, 32 * 21 + 6, 1001},
+    {RUTHIMPO_NO_WINDOW, 2, 18, 1000},
+    {RUTHIMPO_NO_WINDOW, 2, 32 * 21 + 6, 1000},
+    {RUTHIMPO_ACCEPTED, 0, 18, 552},
+    {RUTHIMPO_NO_CONSTANT_SPEED, 4, 18, 553},
+    {RUTHIMPO_NO_CONSTANT_SPEED, 4, 32 * 21 + 6, 555},
+    {RUTHIMPO_NO_CONSTANT_SPEED, 3, 32 * 21 + 6, 556},
+    /* the bytes beside it have no name */
+    {RUTHIMPO_BROKEN_RECORD, 0, 16, 0x0100},
+    {RUTHIMPO_BROKEN_RECORD, 0, 20, 0x0001},
+    {RUTHIMPO_BROKEN_RECORD, 21, 32 * 21 + 8, 0x0001},
 };
 
 static void check_refusals(void) {
@@ -59,11 +78,54 @@ static void check_refusals(void) {
         size_t place = POISON;
         memcpy(sheet, worked, sizeof sheet);
         memset(result, POISON, sizeof result);
-        sheet[changes[n].at] = changes[n].number & 0xFF;
-        sheet[changes[n].at + 1] = changes[n].number >> 8;
+        put(sheet, changes[n].at, changes[n].number);
         uint32_t refusal = ruthimpo_evaluate(sheet, worked_bytes, result, sizeof result, &place);
         check(refusal == changes[n].refusal && place == changes[n].place, "refusal and place of change", n);
         check(is_kept(result, refusal == RUTHIMPO_ACCEPTED ? RUTHIMPO_RESULT_BYTES : 0), "result after change", n);
+    }
+}
+
+/* The worked sheet's background fields, each four with the C that it leads to; nothing else of the result changes. Over 55.0 the
+ * levels at constant speed lose 0.4 in gear 3 and 0.5 in gear 4, on the left from 66.0 and 65.0, on the right from 65.5 and 65.2.
+ * Those of acceleration keep. */
+static const size_t background_places[] = {12, 18, 32 * 21 + 4, 32 * 21 + 6};
+static const struct {
+    unsigned before_and_after[4], c;
+} backgrounds[] = {
+    {{400, 0, 400, 0}, 658},   /* as they stand: 66.0 and 65.2 */
+    {{550, 0, 400, 0}, 654},   /* 55.0 on both sides: 65.6 and 64.7 */
+    {{550, 400, 400, 0}, 655}, /* 55.0 on the left alone: 65.6 and 65.2 */
+    {{400, 0, 550, 400}, 655},
+    {{400, 550, 400, 0}, 658}, /* 55.0 on the right alone: 66.0 and 65.0, weighed 65.78 */
+    {{400, 1, 400, 550}, 658},
+    {{400, 1, 550, 0}, 654},   /* a right 0 is the left 55.0 of its record, whatever the other record has on the right */
+    {{550, 0, 400, 1}, 654},
+};
+
+/* The result record of the worked sheet with such a C. */
+static void put_result(uint8_t *record, unsigned c) {
+    const uint8_t bytes[RUTHIMPO_RESULT_BYTES] = {3, 3, 4, 78, 29, 1};
+    const unsigned numbers[] = {719, c, 70, 106, 149, 667, 149};
+    memcpy(record, bytes, sizeof bytes);
+    for (size_t n = 0; n < sizeof numbers / sizeof *numbers; n++) {
+        put(record, RUTHIMPO_W + 2 * n, numbers[n]);
+    }
+}
+
+static void check_backgrounds(void) {
+    for (size_t n = 0; n < sizeof backgrounds / sizeof *backgrounds; n++) {
+        uint8_t sheet[sizeof worked], result[ROOM], expected[ROOM];
+        size_t place = POISON;
+        memcpy(sheet, worked, sizeof sheet);
+        for (size_t at = 0; at < 4; at++) {
+            put(sheet, background_places[at], backgrounds[n].before_and_after[at]);
+        }
+        memset(result, POISON, sizeof result);
+        memset(expected, POISON, sizeof expected);
+        put_result(expected, backgrounds[n].c);
+        uint32_t refusal = ruthimpo_evaluate(sheet, worked_bytes, result, sizeof result, &place);
+        check(refusal == RUTHIMPO_ACCEPTED && place == 0, "acceptance of backgrounds", n);
+        check(memcmp(result, expected, sizeof expected) == 0, "result of backgrounds", n);
     }
 }
 
@@ -547,6 +609,7 @@ int main(int count, char **names) {
     line_bytes = read_file(names[2], line, sizeof line);
     check(worked_bytes == 32 * 22, "bytes of the worked sheet", worked_bytes);
     check_refusals();
+    check_backgrounds();
     check_null();
     check_line_buffers();
     check_alignments();

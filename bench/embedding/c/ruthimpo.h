@@ -74,7 +74,10 @@ enum ruthimpo_field {
     RUTHIMPO_A = 18         /* a', hundredths of m/s2 */
 };
 
-/* Evaluates a sheet.
+/* Evaluates a sheet. It is laid out as in document 01, "The sheet", with a background for each side (document 02, wish 8):
+ * the numbers at 12 and 18 of the vehicle record are the left and the right background before, those at 4 and 6 of the
+ * closing record the left and the right one after, in tenths of dB(A), 0 to 1,000; 0 on the right stands for the left of
+ * the same record.
  *
  * Answers 0 and puts the result record into the first 32 bytes of `result`; the bytes after them keep what they held.
  * Or answers the number of the refusal, 1 to 10, and leaves all of `result` as it was; the place of the refusal goes to

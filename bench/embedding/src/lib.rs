@@ -86,7 +86,8 @@ impl fmt::Display for Refusal {
 
 impl std::error::Error for Refusal {}
 
-/// Evaluates a sheet. The result record goes to the first 32 bytes of `result`; a refusal leaves every byte as it was.
+/// Evaluates a sheet, laid out as `c/ruthimpo.h` says. The result record goes to the first 32 bytes of `result`; a refusal leaves
+/// every byte as it was.
 pub fn evaluate(sheet: &[u8], result: &mut [u8]) -> Result<(), Refusal> {
     let mut place = 0;
     // SAFETY: the pointers and lengths are those of live slices, and the borrow checker keeps the three places apart.

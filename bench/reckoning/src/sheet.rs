@@ -1,4 +1,4 @@
-//! The sheet: its layout and refusals 2 to 5 (document 01, "The sheet").
+//! The sheet: its layout and refusals 2 to 5 (document 01, "The sheet"; document 02, wish 8).
 
 use crate::{rounded, Refusal};
 
@@ -39,9 +39,16 @@ pub struct Run {
     pub engine_speed: u16,
 }
 
+/// The background on each side, in tenths of dB(A).
+#[derive(Clone, Copy)]
+pub struct Background {
+    pub left: i32,
+    pub right: i32,
+}
+
 pub struct Session {
     pub vehicle: Vehicle,
-    pub background: i32,
+    pub background: Background,
     pub runs: Vec<Run>,
 }
 
@@ -66,7 +73,21 @@ impl Session {
             .map(|(record, place)| read_run(record).ok_or((5, place)))
             .collect::<Result<_, _>>()?;
         let after = read_closing(closing).ok_or((5, last as u32))?;
-        Ok(Session { vehicle, background: i32::from(before.max(after)), runs })
+        Ok(Session { vehicle, background: before.larger(after), runs })
+    }
+}
+
+impl Background {
+    /// The two fields of a record. A zero on the right stands for the left's.
+    fn read(record: &[u8], left_at: usize, right_at: usize) -> Option<Background> {
+        let left = number_within(record, left_at, 0, 1_000)?.into();
+        let right = number_within(record, right_at, 0, 1_000)?.into();
+        Some(Background { left, right: if right == 0 { left } else { right } })
+    }
+
+    /// The larger background of each side.
+    fn larger(self, other: Background) -> Background {
+        Background { left: self.left.max(other.left), right: self.right.max(other.right) }
     }
 }
 
@@ -83,7 +104,7 @@ fn are_zero(bytes: &[u8]) -> bool {
 }
 
 /// The vehicle and the background before.
-fn read_vehicle(record: &[u8]) -> Option<(Vehicle, u16)> {
+fn read_vehicle(record: &[u8]) -> Option<(Vehicle, Background)> {
     let vehicle = Vehicle {
         from_pp: read_flag(record[2])?,
         power: number_within(record, 4, 10, 20_000)?.into(),
@@ -92,8 +113,9 @@ fn read_vehicle(record: &[u8]) -> Option<(Vehicle, u16)> {
         rated_speed: number_within(record, 10, 500, 20_000)?,
         limit: number_within(record, 14, 50, 100)?.into(),
     };
-    let before = number_within(record, 12, 0, 1_000)?;
-    (matches!(record[1], 1 | 2) && record[3] == 0 && are_zero(&record[16..])).then_some((vehicle, before))
+    let before = Background::read(record, 12, 18)?;
+    let unnamed_are_zero = record[3] == 0 && are_zero(&record[16..18]) && are_zero(&record[20..]);
+    (matches!(record[1], 1 | 2) && unnamed_are_zero).then_some((vehicle, before))
 }
 
 fn read_run(record: &[u8]) -> Option<Run> {
@@ -116,8 +138,8 @@ fn read_run(record: &[u8]) -> Option<Run> {
 }
 
 /// The background after.
-fn read_closing(record: &[u8]) -> Option<u16> {
-    number_within(record, 4, 0, 1_000).filter(|_| record[1] == 0 && are_zero(&record[6..]))
+fn read_closing(record: &[u8]) -> Option<Background> {
+    Background::read(record, 4, 6).filter(|_| record[1] == 0 && are_zero(&record[8..]))
 }
 
 fn read_flag(byte: u8) -> Option<bool> {

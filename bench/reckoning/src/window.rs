@@ -1,7 +1,7 @@
-//! Valid runs and windows (document 01, "From levels to windows"; document 02, wish 2).
+//! Valid runs and windows (document 01, "From levels to windows"; document 02, wishes 2 and 8).
 
 use crate::rounded;
-use crate::sheet::{Reading, Run, RunKind, Session};
+use crate::sheet::{Background, Reading, Run, RunKind, Session};
 
 /// Tenths taken off, by the whole decibels from 10 on.
 const CORRECTIONS: [i32; 6] = [5, 4, 3, 2, 1, 0];
@@ -19,12 +19,12 @@ pub struct ValidRun {
 }
 
 impl ValidRun {
-    /// Step 3.
-    fn of(run: &Run, background: i32) -> Option<ValidRun> {
+    /// Step 3, each side by its own background.
+    fn of(run: &Run, background: Background) -> Option<ValidRun> {
         match (run.struck, run.left, run.right) {
             (false, Reading::Level(left), Reading::Level(right)) => Some(ValidRun {
-                left: corrected(left, background)?,
-                right: corrected(right, background)?,
+                left: corrected(left, background.left)?,
+                right: corrected(right, background.right)?,
                 start_speed: run.start_speed,
                 end_speed: run.end_speed,
                 engine_speed: run.engine_speed,

@@ -1,11 +1,16 @@
 //! Random sessions and damaged sheets for the differential run.
 
 use crate::random::Random;
-use crate::sheets::{put, run, sheet, speeds_for, Record, Vehicle, ACCELERATION, CONSTANT, RECORD, WORKED};
+use crate::sheets::{
+    put, run, sheet, speeds_for, Backgrounds, Record, Vehicle, ACCELERATION, CONSTANT, RECORD, WORKED,
+};
 
 /// The patterns of 20.0 and 140.0.
 const LOWEST: u32 = 0x41A0_0000;
 const HIGHEST: u32 = 0x430C_0000;
+
+/// Tenths, from one that no level is near to one that makes some levels not valid.
+const BACKGROUNDS: [u16; 5] = [300, 400, 500, 550, 580];
 
 /// A sheet to try: a session, a damaged sheet of the corpus, a damaged session, or arbitrary bytes.
 pub fn any_sheet(random: &mut Random, corpus: &[Vec<u8>]) -> Vec<u8> {
@@ -31,6 +36,18 @@ fn number_near(random: &mut Random, lowest: u16, highest: u16) -> u16 {
     }
 }
 
+/// Backgrounds of a record, the right one missing, chosen by itself, near the left, or next to nothing.
+fn backgrounds(random: &mut Random) -> Backgrounds {
+    let left = random.pick(&BACKGROUNDS);
+    let right = match random.below(8) {
+        0..3 => 0,
+        3 | 4 => random.pick(&BACKGROUNDS),
+        5 | 6 => (i64::from(left) + random.between(-40, 20)) as u16,
+        _ => 1,
+    };
+    Backgrounds { left, right }
+}
+
 fn vehicle(random: &mut Random) -> Vehicle {
     let common = random.chance(70);
     Vehicle {
@@ -39,7 +56,7 @@ fn vehicle(random: &mut Random) -> Vehicle {
         mass: if common { random.between(800, 2500) as u16 } else { number_near(random, 300, 5_000) },
         length: number_near(random, 100, 2_000),
         rated_speed: random.between(3900, 6000) as u16,
-        background: random.pick(&[300, 400, 500, 550, 580]),
+        before: backgrounds(random),
         limit: random.between(60, 80) as u16,
     }
 }
@@ -68,7 +85,8 @@ fn session(random: &mut Random) -> Vec<u8> {
     if random.chance(30) {
         shuffle(random, &mut runs);
     }
-    sheet(&vehicle, &runs)
+    let after = if random.chance(40) { vehicle.before } else { backgrounds(random) };
+    sheet(&vehicle, &runs, after)
 }
 
 fn runs_of(random: &mut Random) -> usize {
@@ -121,7 +139,7 @@ fn changed(random: &mut Random, mut sheet: Vec<u8>) -> Vec<u8> {
     let at = random.below(sheet.len());
     let record = at / RECORD * RECORD;
     let is_whole = record + RECORD <= sheet.len();
-    match random.below(16) {
+    match random.below(17) {
         0 => sheet[at] = random.next() as u8,
         1 => sheet[at] ^= 1 << random.below(8),
         2 => sheet.truncate(at),
@@ -151,6 +169,7 @@ fn changed(random: &mut Random, mut sheet: Vec<u8>) -> Vec<u8> {
             put(&mut sheet, place, value.wrapping_add(random.between(-40, 40) as u16));
         }
         14 if is_whole => sheet[record..record + RECORD].fill(0),
+        15 if is_whole => other_background(random, &mut sheet),
         _ => sheet.extend((0..random.below(40)).map(|_| 0)),
     }
     sheet
@@ -165,6 +184,17 @@ fn moved_float(random: &mut Random, record: &mut [u8], at: usize) {
         _ => pattern.wrapping_add(random.between(-200_000, 200_000) as u32),
     };
     record[at..at + 4].copy_from_slice(&moved.to_le_bytes());
+}
+
+/// A background of the first or the last record at an end of its range, outside of it, as it comes, or with its bytes swapped.
+fn other_background(random: &mut Random, sheet: &mut [u8]) {
+    let last = (sheet.len() / RECORD - 1) * RECORD;
+    let place = random.pick(&[12, 18, last + 4, last + 6]);
+    match random.below(8) {
+        0..3 => sheet.swap(place, place + 1),
+        3 => put(sheet, place, random.between(0, 1_000) as u16),
+        _ => put(sheet, place, random.pick(&[0, 1, 999, 1_000, 1_001, u16::MAX])),
+    }
 }
 
 /// The closing record's number of runs set right.

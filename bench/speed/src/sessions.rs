@@ -30,5 +30,5 @@ pub fn session(records: usize, gears: usize, place: Place) -> Vec<u8> {
         let level = if is_loud { 75.0 } else { 71.3 };
         run(kind, gear, [level, level - 0.6], speeds)
     };
-    sheet(&WORKED, &(0..runs).map(record).collect::<Vec<Record>>())
+    sheet(&WORKED, &(0..runs).map(record).collect::<Vec<Record>>(), WORKED.before)
 }

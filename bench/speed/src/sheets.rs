@@ -1,4 +1,4 @@
-//! Sheets by named fields (document 01, "The sheet").
+//! Sheets by named fields (document 01, "The sheet"; document 02, wish 8).
 
 pub const RECORD: usize = 32;
 pub const ACCELERATION: u8 = 2;
@@ -10,28 +10,43 @@ pub fn put(record: &mut [u8], at: usize, value: u16) {
     record[at..at + 2].copy_from_slice(&value.to_le_bytes());
 }
 
+/// The background fields of a record, in tenths. A zero on the right stands for the left.
+#[derive(Clone, Copy)]
+pub struct Backgrounds {
+    pub left: u16,
+    pub right: u16,
+}
+
 pub struct Vehicle {
     pub start_line: u8,
     pub power: u16,
     pub mass: u16,
     pub length: u16,
     pub rated_speed: u16,
-    pub background: u16,
+    pub before: Backgrounds,
     pub limit: u16,
 }
 
 /// The vehicle of document 01's whole sheet.
-pub const WORKED: Vehicle =
-    Vehicle { start_line: 0, power: 1000, mass: 1500, length: 450, rated_speed: 6000, background: 400, limit: 72 };
+pub const WORKED: Vehicle = Vehicle {
+    start_line: 0,
+    power: 1000,
+    mass: 1500,
+    length: 450,
+    rated_speed: 6000,
+    before: Backgrounds { left: 400, right: 0 },
+    limit: 72,
+};
 
 impl Vehicle {
     pub fn record(&self) -> Record {
         let mut record = [0; RECORD];
         record[..3].copy_from_slice(&[1, 1, self.start_line]);
-        let numbers = [self.power, self.mass, self.length, self.rated_speed, self.background, self.limit];
+        let numbers = [self.power, self.mass, self.length, self.rated_speed, self.before.left, self.limit];
         for (place, number) in record[4..16].chunks_exact_mut(2).zip(numbers) {
             put(place, 0, number);
         }
+        put(&mut record, 18, self.before.right);
         record
     }
 
@@ -53,11 +68,12 @@ pub fn run(kind: u8, gear: u8, levels: [f32; 2], speeds: [u16; 2]) -> Record {
     record
 }
 
-pub fn sheet(vehicle: &Vehicle, runs: &[Record]) -> Vec<u8> {
+pub fn sheet(vehicle: &Vehicle, runs: &[Record], after: Backgrounds) -> Vec<u8> {
     let mut closing = [0; RECORD];
     closing[0] = 9;
     put(&mut closing, 2, runs.len() as u16);
-    put(&mut closing, 4, vehicle.background);
+    put(&mut closing, 4, after.left);
+    put(&mut closing, 6, after.right);
     [&[vehicle.record()], runs, &[closing]].concat().concat()
 }
 

@@ -30,8 +30,7 @@ pub fn evaluate(sheet: &[u8], result: &mut [u8]) -> Result<(), Refusal> {
     if !is_vehicle(vehicle) {
         return Err((5, 0));
     }
-    let background = number(vehicle, 12).max(number(closing, 4));
-    let groups = Groups::of(&records[1..last], u32::from(background))?;
+    let groups = Groups::of(&records[1..last], Backgrounds::of(vehicle, closing))?;
     if !is_closing(closing) {
         return Err((5, last as u32));
     }
@@ -57,11 +56,13 @@ fn is_vehicle(record: &Record) -> bool {
         && (500..=20_000).contains(&number(record, 10))
         && number(record, 12) <= 1_000
         && (50..=100).contains(&number(record, 14))
-        && record[16..] == [0; 16]
+        && record[16..18] == [0; 2]
+        && number(record, 18) <= 1_000
+        && record[20..] == [0; 12]
 }
 
 fn is_closing(record: &Record) -> bool {
-    record[1] == 0 && number(record, 4) <= 1_000 && record[6..] == [0; 26]
+    record[1] == 0 && number(record, 4) <= 1_000 && number(record, 6) <= 1_000 && record[8..] == [0; 24]
 }
 
 fn is_reading(kind: u8, pattern: u32) -> bool {
@@ -87,6 +88,26 @@ fn is_run(record: &Record) -> bool {
         && is_reading(record[4], pattern(record, 12))
 }
 
+/// The background of each side in tenths, the larger of before and after.
+#[derive(Clone, Copy)]
+struct Backgrounds {
+    left: u32,
+    right: u32,
+}
+
+impl Backgrounds {
+    fn of(vehicle: &Record, closing: &Record) -> Backgrounds {
+        let (before, after) = (Backgrounds::in_record(vehicle, 12, 18), Backgrounds::in_record(closing, 4, 6));
+        Backgrounds { left: before.left.max(after.left), right: before.right.max(after.right) }
+    }
+
+    /// A zero on the right is the left of the same record, whatever the other record has.
+    fn in_record(record: &Record, left: usize, right: usize) -> Backgrounds {
+        let [left, right] = [left, right].map(|at| number(record, at).into());
+        Backgrounds { left, right: if right == 0 { left } else { right } }
+    }
+}
+
 fn rounded(numerator: u32, denominator: u32) -> u32 {
     (numerator + denominator / 2) / denominator
 }
@@ -109,13 +130,13 @@ struct Valid {
 }
 
 impl Valid {
-    fn of(record: &Record, background: u32) -> Option<Valid> {
+    fn of(record: &Record, backgrounds: Backgrounds) -> Option<Valid> {
         if record[2..5] != [0, 1, 1] {
             return None;
         }
         Some(Valid {
-            left: corrected(pattern(record, 8), background)?,
-            right: corrected(pattern(record, 12), background)?,
+            left: corrected(pattern(record, 8), backgrounds.left)?,
+            right: corrected(pattern(record, 12), backgrounds.right)?,
             start: number(record, 16),
             end: number(record, 18),
             engine: number(record, 20),
@@ -176,7 +197,7 @@ struct Groups {
 }
 
 impl Groups {
-    fn of(runs: &[Record], background: u32) -> Result<Groups, Refusal> {
+    fn of(runs: &[Record], backgrounds: Backgrounds) -> Result<Groups, Refusal> {
         let mut groups = Groups { acceleration: Default::default(), constant: Default::default(), driven: [false; 16] };
         for (record, at) in runs.iter().zip(1..) {
             if !is_run(record) {
@@ -190,7 +211,7 @@ impl Groups {
                 &mut groups.constant[gear]
             };
             if !group.is_window {
-                if let Some(run) = Valid::of(record, background) {
+                if let Some(run) = Valid::of(record, backgrounds) {
                     group.push(run);
                 }
             }

@@ -1,29 +1,35 @@
 -- The rows of a decision, one by one, and what a whole sheet gives for them. Assumes nothing.
-use mathlib.Core.Path.{_≡_, ap}
+use mathlib.Core.Path.{_≡_, sym, ap, ap₂, _∙_}
 use mathlib.Core.Bool.{true, false}
 use mathlib.Core.List.{List}
 use Prim.Native.Nat.{ℕ, _+_, _-_, _≤_, _<_}
 use lib.ListN.{length}
 use borrow.Author.Tests.{lt-ltb, le-ltb}
 use Rattle.refusal.specs.declared.Refusal.the-variants as refusal
+use Rattle.record.specs.declared.Backgrounds.{Backgrounds}
 use Rattle.record.specs.declared.Vehicle.{Vehicle}
 use Rattle.record.specs.declared.Closing.{Closing}
 use Rattle.sheet.specs.declared.Examination.the-variants.{Whole}
 use Rattle.sheet.specs.Sheet.{examined, anyAcceleration}
+use Rattle.sheet.proofs.Examinations.{whole}
 use Rattle.window.specs.declared.Four.{Four}
+use Rattle.valid_runs.specs.ValidRuns.{backgroundsOf}
 use Rattle.reference.specs.declared.Reference.{Reference}
 use Rattle.reference.specs.Reference.{pmrOf, referenceAt}
 use Rattle.gears.specs.declared.Gear.{Gear}
 use Rattle.gears.specs.Rules.{gearAt, firstNotFalling, choiceOf}
 use Rattle.session.specs.Session.{Session, sessionOf, lowestNoWindow, gearsOf, windowsOf}
 use Rattle.decision.specs.declared.Decision.the-variants.{Refused}
-use Rattle.decision.specs.Decision.{outOfRange, selectedIn, finishBy, decideGears, decideWhole, trackOf, decideBy, decisionOf}
+use Rattle.decision.specs.Decision.{outOfRange, selectedIn, finishBy, decideGears, decideWhole, trackOf, decideBy, decisionOver, sheetVehicle, sheetClosing, sheetBackgrounds, decisionOf}
 
 -- ---- a whole sheet
 
-pub decision-is : (s : List ℕ) (v : Vehicle) (z : Closing) → examined s ≡ Whole v z → decisionOf s ≡ decideWhole (sessionOf s (trackOf v z)) (pmrOf (v .power) (v .mass)) (v .limit)
-unfolding decisionOf decideBy
-decision-is s v z e = ap (decideBy s) e
+pub decision-is : (s : List ℕ) (v : Vehicle) (z : Closing) → examined s ≡ Whole v z → decisionOf s ≡ decideWhole (sessionOf s (trackOf (backgroundsOf (v .backgrounds) (z .backgrounds)) v)) (pmrOf (v .power) (v .mass)) (v .limit)
+unfolding decisionOf decisionOver decideBy sheetVehicle sheetClosing sheetBackgrounds
+decision-is s v z e =
+    let w = whole s v z e in
+    let same : sheetBackgrounds s ≡ backgroundsOf (v .backgrounds) (z .backgrounds) = sym (ap₂ (λ (x : Vehicle) (y : Closing). backgroundsOf (x .backgrounds) (y .backgrounds)) (w .vehicle-is) (w .closing-is)) in
+    ap (decideBy (sheetBackgrounds s) s) e ∙ ap (λ (b : Backgrounds). decideWhole (sessionOf s (trackOf b v)) (pmrOf (v .power) (v .mass)) (v .limit)) same
 
 -- ---- rows 6 and 7
 

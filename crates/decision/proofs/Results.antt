@@ -23,7 +23,7 @@ use Rattle.decision.specs.declared.Selection.{Selection}
 use Rattle.decision.specs.declared.Selection.the-variants as selection
 use Rattle.decision.specs.declared.Decision.{Decision}
 use Rattle.decision.specs.declared.Decision.the-variants.{Result}
-use Rattle.decision.specs.Decision.{outOfRange, Straddling, finishBy, decideGears, decideWhole, decideBy, decisionOf, sheetVehicle, sheetClosing, sheetSession, pmrIn, referenceIn, choiceIn, selectionIn}
+use Rattle.decision.specs.Decision.{outOfRange, Straddling, finishBy, decideGears, decideWhole, decideBy, decisionOver, sheetVehicle, sheetClosing, sheetBackgrounds, decisionOf, sheetSession, pmrIn, referenceIn, choiceIn, selectionIn}
 use Rattle.decision.proofs.Selections.{straddling, Measuring, measuring}
 
 pub record Decided (s : List ℕ) (o : Outcome) : Type 0 where
@@ -84,12 +84,12 @@ module _ (s : List ℕ) (o : Outcome) (w : WholeSheet s (sheetVehicle s) (sheetC
       (λ f e. from-gears (ltb-false (pmrIn s) 50 (range .0)) (ltb-false 6000 (pmrIn s) (range .1)) e))))
 
 pub decided : (s : List ℕ) (o : Outcome) → decisionOf s ≡ Result o → Decided s o
-unfolding decisionOf decideBy sheetVehicle sheetClosing sheetSession pmrIn Then
+unfolding decisionOf decisionOver decideBy sheetVehicle sheetClosing sheetSession pmrIn Then
 decided s o e = by (examined s) refl e
   where
-    by : (x : Examination) → examined s ≡ x → decideBy s x ≡ Result o → Decided s o
+    by : (x : Examination) → examined s ≡ x → decideBy (sheetBackgrounds s) s x ≡ Result o → Decided s o
     by (examination.Refused r) w k = absurd (let y : _≡_ {A = ℕ} 0 1 = cc in omega arith)
     by (examination.Whole v z) w k =
         let sheet = whole s v z w in
         let same : examination.Whole v z ≡ examination.Whole (sheetVehicle s) (sheetClosing s) = ap₂ examination.Whole (sheet .vehicle-is) (sheet .closing-is) in
-        from-whole s o (whole s (sheetVehicle s) (sheetClosing s) (w ∙ same)) (ap (decideBy s) (sym same) ∙ k)
+        from-whole s o (whole s (sheetVehicle s) (sheetClosing s) (w ∙ same)) (ap (decideBy (sheetBackgrounds s) s) (sym same) ∙ k)

@@ -6,6 +6,7 @@ use Prim.Native.Nat.{ℕ, _+_, _-_}
 use lib.Dec.{ltb}
 use lib.ListN.{length, getD}
 use Rattle.refusal.specs.declared.Refusal.the-variants as refusal
+use Rattle.record.specs.declared.Backgrounds.{Backgrounds}
 use Rattle.record.specs.declared.Vehicle.{Vehicle}
 use Rattle.record.specs.declared.Closing.{Closing}
 use Rattle.record.specs.Records.{recordAt, vehicleIn, pathOf, closingIn}
@@ -16,7 +17,7 @@ use Rattle.window.specs.declared.Four.{Four}
 use Rattle.window.specs.declared.Window.{Window}
 use Rattle.window.specs.declared.Window.the-variants as window
 use Rattle.window.specs.Windows.{emptyFour}
-use Rattle.valid_runs.specs.ValidRuns.{backgroundOf}
+use Rattle.valid_runs.specs.ValidRuns.{backgroundsOf}
 use Rattle.reference.specs.declared.Reference.{Reference}
 use Rattle.reference.specs.Reference.{pmrOf, referenceAt}
 use Rattle.gears.specs.declared.Gear.{Gear}
@@ -97,17 +98,18 @@ decideWhole t q limit =
     (cond (ltb (lowestNoWindow t) 16) (Refused (refusal.NoWindow (lowestNoWindow t + 1)))
     (decideGears (referenceAt q) limit t (gearsOf t) (windowsOf t))))
 
--- what a whole sheet is evaluated by
-unfoldable pub trackOf : Vehicle → Closing → Track
-trackOf v z = record { background = record { 0 = backgroundOf (v .background .0) (z .background .0) }; rated = v .«rated_speed»; path = pathOf v }
+-- what a whole sheet is evaluated by over these backgrounds
+unfoldable pub trackOf : Backgrounds → Vehicle → Track
+trackOf b v = record { backgrounds = b; rated = v .«rated_speed»; path = pathOf v }
 
--- rows 2 to 5 are the examination's
-unfoldable pub decideBy : List ℕ → Examination → Decision
-decideBy s (examination.Refused x) = Refused x
-decideBy s (examination.Whole v z) = decideWhole (sessionOf s (trackOf v z)) (pmrOf (v .power) (v .mass)) (v .limit)
+-- rows 2 to 5 are the examination's; the closing record would give nothing but its backgrounds, and those are given as b
+unfoldable pub decideBy : Backgrounds → List ℕ → Examination → Decision
+decideBy b s (examination.Refused x) = Refused x
+decideBy b s (examination.Whole v z) = decideWhole (sessionOf s (trackOf b v)) (pmrOf (v .power) (v .mass)) (v .limit)
 
-unfoldable pub decisionOf : List ℕ → Decision
-decisionOf s = decideBy s (examined s)
+-- what is decided for a byte string over these backgrounds
+unfoldable pub decisionOver : Backgrounds → List ℕ → Decision
+decisionOver b s = decideBy b s (examined s)
 
 -- ---- what the rules decide on, of the bytes themselves
 
@@ -118,8 +120,16 @@ sheetVehicle s = vehicleIn (recordAt s 0)
 unfoldable pub sheetClosing : List ℕ → Closing
 sheetClosing s = closingIn (recordAt s (lastOf s))
 
+-- each side's background
+unfoldable pub sheetBackgrounds : List ℕ → Backgrounds
+sheetBackgrounds s = backgroundsOf (sheetVehicle s .backgrounds) (sheetClosing s .backgrounds)
+
+-- what is decided for a byte string: over the backgrounds that its own records give
+unfoldable pub decisionOf : List ℕ → Decision
+decisionOf s = decisionOver (sheetBackgrounds s) s
+
 unfoldable pub sheetSession : List ℕ → Session
-sheetSession s = sessionOf s (trackOf (sheetVehicle s) (sheetClosing s))
+sheetSession s = sessionOf s (trackOf (sheetBackgrounds s) (sheetVehicle s))
 
 unfoldable pub pmrIn : List ℕ → ℕ
 pmrIn s = pmrOf (sheetVehicle s .power) (sheetVehicle s .mass)

@@ -20,6 +20,7 @@ ghost use Prim.Native.Nat.{_≤_, _<_};
 ghost use lib.ListN.{length};
 ghost use Rattle.sheet.specs.declared.Examination.the-variants.{Whole};
 ghost use Rattle.sheet.specs.Sheet.{examined, RunsGood};
+ghost use Rattle.valid_runs.specs.ValidRuns.{backgroundsOf};
 ghost use Rattle.gears.specs.Rules.{Inside};
 ghost use Rattle.session.specs.Session.{sessionOf, windowIn, gearsIn, windowsIn};
 ghost use Rattle.decision.specs.Decision.{measuredBy, measuredAt, oneOf, pairOf, selectedIn, Straddling, finishBy, decideGears, trackOf, decisionOf};
@@ -150,11 +151,11 @@ fn decide_table(
 // What a session is evaluated by.
 fn track_of(v: Vehicle, z: Closing) -> Track
     requires { ⌜ v .length ≤ 2000 ⌝ }
-    ensures { λ r. ⌜ r ≡ trackOf v z ⌝ }
+    ensures { λ r. ⌜ r ≡ trackOf (backgroundsOf (v .backgrounds) (z .backgrounds)) v ⌝ }
 {
-    let background = valid_runs::background(v.background, z.background);
+    let backgrounds = valid_runs::backgrounds(v.backgrounds, z.backgrounds);
     Track {
-        background,
+        backgrounds,
         rated: v.rated_speed,
         path: record::path_of(v),
     }

@@ -5,3 +5,4 @@ pub mod Rising
 pub mod Rows
 pub mod SameRuns
 pub mod Verdicts
+pub mod EarlierSheets

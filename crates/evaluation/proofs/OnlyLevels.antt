@@ -21,11 +21,10 @@ use Rattle.window.specs.declared.ValidRun.{ValidRun}
 use Rattle.window.proofs.Rising.{Risen}
 use Rattle.valid_runs.specs.declared.Condition.{Condition}
 use Rattle.valid_runs.specs.declared.Validity.the-variants.{Valid}
-use Rattle.valid_runs.specs.ValidRuns.{candidateOf}
-use Rattle.valid_runs.proofs.Validities.{reading-rising}
-use Rattle.valid_runs.proofs.Counting.{counts}
+use Rattle.valid_runs.specs.ValidRuns.{backgroundsOf, candidateOf}
+use Rattle.valid_runs.proofs.Counting.{counts, levels-rising}
 use Rattle.reference.specs.Reference.{pmrOf, referenceAt}
-use Rattle.decision.specs.Decision.{trackOf, sheetVehicle, sheetClosing, sheetSession, pmrIn, referenceIn}
+use Rattle.decision.specs.Decision.{trackOf, sheetVehicle, sheetClosing, sheetBackgrounds, sheetSession, pmrIn, referenceIn}
 use Rattle.evaluation.specs.Demand.{ofLevel, OnlyLevels, floatAt, lower}
 
 -- ---- bytes that are none of a float's
@@ -93,8 +92,8 @@ module _ (s s′ : List ℕ) (only : OnlyLevels s s′) (v : Vehicle) (z : Closi
   same-closing = closing-of (recordAt s (lastOf s)) (recordAt s′ (lastOf s)) same-last ∙ ap (λ (n : ℕ). closingIn (recordAt s′ (n - 1))) (same-records s s′ only)
 
   pub same-track : sheetSession s .track ≡ sheetSession s′ .track
-  unfolding sheetSession
-  same-track = ap₂ trackOf same-vehicle same-closing
+  unfolding sheetSession sheetBackgrounds
+  same-track = ap₂ (λ (x : Vehicle) (y : Closing). trackOf (backgroundsOf (x .backgrounds) (y .backgrounds)) x) same-vehicle same-closing
 
   pub same-reference : referenceIn s ≡ referenceIn s′
   unfolding referenceIn pmrIn
@@ -107,17 +106,18 @@ module _ (s s′ : List ℕ) (only : OnlyLevels s s′) where
   same-number : (n k : ℕ) → n < records s → 16 ≤ k → k < 31 → word (recordAt s n) k ≡ word (recordAt s′ n) k
   same-number n k h l m = same-word (recordAt s n) (recordAt s′ n) k (same-after s s′ only n k h l (omega arith)) (same-after s s′ only n (k + 1) h (omega arith) (omega arith))
 
-  -- a run that counts in both, over one background
+  -- a run that counts in both, over the same backgrounds
   pub run-rising :
-      (o o′ : Condition) (n : ℕ) (v v′ : ValidRun) → n < records s → o .background ≡ o′ .background → candidateOf s o n ≡ Valid v → candidateOf s′ o′ n ≡ Valid v′ → lower s s′ n ≡ false → Risen v v′
+      (o o′ : Condition) (n : ℕ) (v v′ : ValidRun) → n < records s → o .backgrounds ≡ o′ .backgrounds → candidateOf s o n ≡ Valid v → candidateOf s′ o′ n ≡ Valid v′ → lower s s′ n ≡ false → Risen v v′
   unfolding lower floatAt
   run-rising o o′ n v v′ h b e e′ low =
       let c = counts s o n v e in
       let c′ = counts s′ o′ n v′ e′ in
-      let neither-side = neither (lt (floatAt s′ n 8) (floatAt s n 8)) (lt (floatAt s′ n 12) (floatAt s n 12)) low in
+      let neither-lower = neither (lt (floatAt s′ n 8) (floatAt s n 8)) (lt (floatAt s′ n 12) (floatAt s n 12)) low in
+      let levels = levels-rising s s′ o o′ n v v′ b c c′ (same-before s s′ only n 3 h (omega arith)) (same-before s s′ only n 4 h (omega arith)) (neither-lower .0) (neither-lower .1) in
       record {
-        left = reading-rising (byte (recordAt s n) 3) _ _ (o .background .0) _ _ (c .left) (rw (same-before s s′ only n 3 h (omega arith), b) (c′ .left)) (neither-side .0);
-        right = reading-rising (byte (recordAt s n) 4) _ _ (o .background .0) _ _ (c .right) (rw (same-before s s′ only n 4 h (omega arith), b) (c′ .right)) (neither-side .1);
+        left = levels .0;
+        right = levels .1;
         start = c .start ∙ same-number n 16 h (omega arith) (omega arith) ∙ sym (c′ .start);
         end = c .end ∙ same-number n 18 h (omega arith) (omega arith) ∙ sym (c′ .end);
       }

@@ -67,8 +67,8 @@ second-listed i j =
 -- ---- a gear in both sheets
 
 module _ (s s′ : List ℕ) (n : NoneLower s s′) (w : WholeSheet s (sheetVehicle s) (sheetClosing s)) where
-  -- two windows over one background
-  window-rising : (o o′ : Condition) (k : ℕ) (f f′ : Four) → o .background ≡ o′ .background → windowOf s o ≡ window.Runs f → windowOf s′ o′ ≡ window.Runs f′ → ListedAt (chosenRuns s) k f → ListedAt (chosenRuns s) k f′ → FourRisen f f′
+  -- two windows over the same backgrounds
+  window-rising : (o o′ : Condition) (k : ℕ) (f f′ : Four) → o .backgrounds ≡ o′ .backgrounds → windowOf s o ≡ window.Runs f → windowOf s′ o′ ≡ window.Runs f′ → ListedAt (chosenRuns s) k f → ListedAt (chosenRuns s) k f′ → FourRisen f f′
   window-rising o o′ k f f′ same e e′ p p′ =
       let m = window-members s o f e in
       let m′ = window-members s′ o′ f′ e′ in
@@ -90,7 +90,7 @@ module _ (s s′ : List ℕ) (n : NoneLower s s′) (w : WholeSheet s (sheetVehi
       (k : ℕ) (g g′ : ChosenGear) → IsMeasured (sheetSession s) g → IsMeasured (sheetSession s′) g′ → GearListedAt (chosenRuns s) k g → GearListedAt (chosenRuns s) k g′ → GearNotLower g g′
   unfolding sheetSession
   gear-rising k g g′ m m′ p p′ =
-      let same : sheetSession s .track .background ≡ sheetSession s′ .track .background = ap (λ (t : Track). t .background) tracks in
+      let same : sheetSession s .track .backgrounds ≡ sheetSession s′ .track .backgrounds = ap (λ (t : Track). t .backgrounds) tracks in
       let fast = window-rising (conditionOf (sheetSession s .track) 2 (g .gear .number)) (conditionOf (sheetSession s′ .track) 2 (g′ .gear .number)) k (accelerating g) (accelerating g′) same (m .accelerating) (m′ .accelerating) (p .acceleration) (p′ .acceleration) in
       let slow = window-rising (conditionOf (sheetSession s .track) 3 (g .gear .number)) (conditionOf (sheetSession s′ .track) 3 (g′ .gear .number)) (k + 4) (constant g) (constant g′) same (m .constant) (m′ .constant) (p .constant) (p′ .constant) in
       record {

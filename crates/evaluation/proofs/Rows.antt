@@ -31,7 +31,7 @@ use Rattle.gears.specs.Rules.{firstNotFalling}
 use Rattle.session.specs.Session.{Session, lowestNoWindow, gearsOf, windowsOf}
 use Rattle.decision.specs.declared.Decision.{Decision}
 use Rattle.decision.specs.declared.Decision.the-variants as decision
-use Rattle.decision.specs.Decision.{outOfRange, measuredBy, measuredAt, oneOf, pairOf, selectedIn, finishBy, decideGears, decideWhole, decideBy, decisionOf, sheetVehicle, sheetClosing, sheetSession, pmrIn, referenceIn, choiceIn}
+use Rattle.decision.specs.Decision.{outOfRange, measuredBy, measuredAt, oneOf, pairOf, selectedIn, finishBy, decideGears, decideWhole, decideBy, decisionOver, sheetVehicle, sheetClosing, sheetBackgrounds, decisionOf, sheetSession, pmrIn, referenceIn, choiceIn}
 use Rattle.evaluation.specs.Answer.{answerBy, answerOf}
 use Rattle.evaluation.specs.Rows.{Row, undecided, missing, noConstant, lowestNoConstant, rows, emptyRow, First, None}
 
@@ -142,7 +142,7 @@ module _ (s : List ℕ) (size : ℕ) where
       (step decided (ltb (firstNotFalling (gearsOf (sheetSession s))) (length (gearsOf (sheetSession s)) - 1)) _ _ _ _ (of-refusal (refusal.NotFalling _)) (after-choice (referenceIn s) (sheetVehicle s .limit) (sheetSession s) (choiceIn s)))))
 
   of : Examination → Told
-  of e = decided (decideBy s e)
+  of e = decided (decideBy (sheetBackgrounds s) s e)
 
   of-refused : (r : Refusal) → of (examination.Refused r) ≡ told (numberOf r) (placeOf r)
   unfolding of decideBy
@@ -162,8 +162,8 @@ module _ (s : List ℕ) (size : ℕ) where
 
   -- the answer tells the first row that holds
   tells-first : tells (answerOf s size) ≡ first (rows s size)
-  unfolding answerOf decisionOf of decided tells rows first
-  tells-first = step tells (ltb size 32) (answer.Refused refusal.ShortBuffer) (answerBy (decideBy s (examined s))) _ _ refl of-examined
+  unfolding answerOf decisionOf decisionOver of decided tells rows first
+  tells-first = step tells (ltb size 32) (answer.Refused refusal.ShortBuffer) (answerBy (decideBy (sheetBackgrounds s) s (examined s))) _ _ refl of-examined
 
   answered : Found (rows s size) (tells (answerOf s size))
   answered = rw tells-first (found (rows s size))

@@ -19,17 +19,23 @@ unfoldable pub answerBy : Decision → Answer
 answerBy (decision.Refused r) = Refused r
 answerBy (decision.Result o) = Accepted
 
--- row 1: a buffer under 32 bytes; then the sheet decides
+-- row 1: a buffer under 32 bytes; then the decision
+abbrev pub answerFor : Decision → ℕ → Answer
+answerFor d size = cond (ltb size 32) (Refused ShortBuffer) (answerBy d)
+
 unfoldable pub answerOf : List ℕ → ℕ → Answer
-answerOf s size = cond (ltb size 32) (Refused ShortBuffer) (answerBy (decisionOf s))
+answerOf s size = answerFor (decisionOf s) size
 
 -- on a refusal the buffer stays as it was; on success the result stands in its first 32 bytes, and the others stay
 unfoldable pub bufferBy : Decision → List ℕ → List ℕ
 bufferBy (decision.Refused r) b = b
 bufferBy (decision.Result o) b = resultBytes o ++ drop 32 b
 
+abbrev pub bufferFor : Decision → List ℕ → List ℕ
+bufferFor d b = cond (ltb (length b) 32) b (bufferBy d b)
+
 unfoldable pub bufferOf : List ℕ → List ℕ → List ℕ
-bufferOf s b = cond (ltb (length b) 32) b (bufferBy (decisionOf s) b)
+bufferOf s b = bufferFor (decisionOf s) b
 
 -- ---- accepted, refused, and L_urban
 

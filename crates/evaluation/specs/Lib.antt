@@ -1,3 +1,4 @@
 pub mod Answer
 pub mod Rows
 pub mod Demand
+pub mod EarlierSheets

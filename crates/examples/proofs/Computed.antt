@@ -1,34 +1,41 @@
--- What the definitions give for the starred examples, for the runs that the worked sheet chooses, and for a louder sheet: one test, computed once.
--- Assumes nothing.
+-- What the definitions give for the examples, for the runs that the worked sheet chooses, for a louder sheet, and for the worked sheet with one
+-- background: one test, computed once. Assumes nothing.
 use mathlib.Core.Path.{_≡_, refl, ap₂}
-use mathlib.Core.Bool.{Bool, true, false, _&&_}
+use mathlib.Core.Bool.{Bool, true, false, not, _&&_}
 use mathlib.Core.List.{List, [], _∷_, map}
 use Prim.Native.Nat.{ℕ}
 use lib.Dec.{T, eqb, eqb→eq}
 use lib.Ieee.Fits.{and-l, and-r}
 use lib.Ieee.{ofBits}
+use lib.Ieee.Bits.{is-true}
+use lib.ListN.{getD}
 use lib.Seq.{sets}
+use borrow.Author.Tests.{not-true}
 use Rattle.units.specs.Bytes.{number}
 use Rattle.units.specs.Tests.{lowest, some, pastLast, allOf}
 use Rattle.units.specs.Rounding.{rounded}
+use Rattle.units.proofs.Tests.{each}
+use Rattle.refusal.specs.declared.Answer.{Answer}
+use Rattle.refusal.specs.declared.Answer.the-variants as answer
 use Rattle.level.specs.Reading.{inRange, readingOf}
 use Rattle.level.specs.Level.{tenthsOf, corrections, correctionOf, correctedSide, sideOf}
-use Rattle.record.specs.Records.{records, recordAt, zeros, vehicleTests, vehicleGood, vehicleIn, runTests, runGood, runIn, readingFrom, closingTests, closingGood, closingIn}
-use Rattle.sheet.specs.Sheet.{wrongSize, noVehicle, noClosing, goodAt, lowestBroken, examined, anyAcceleration, hasAcceleration}
+use Rattle.record.specs.Records.{records, recordAt, zeros, backgroundsIn, vehicleTests, vehicleGood, vehicleIn, runTests, runGood, runIn, readingFrom, closingTests, closingGood, closingIn}
+use Rattle.sheet.specs.Sheet.{lastOf, wrongSize, noVehicle, noClosing, goodAt, lowestBroken, examined, anyAcceleration, hasAcceleration}
 use Rattle.window.specs.Windows.{spanned, fitting, emptyRun, fourAt, firstPlace, firstWindow, largerSum, conditionLevel, emptyFour}
-use Rattle.valid_runs.specs.ValidRuns.{bothSides, validOf, candidateOf, restFrom, restOf, windowOf}
+use Rattle.valid_runs.specs.ValidRuns.{backgroundsOf, bothSides, validOf, candidateOf, restFrom, restOf, windowOf}
 use Rattle.reference.specs.Reference.{pmrOf, between, aUrban, aRef, referenceAt}
 use Rattle.gears.specs.Acceleration.{accelerationOf, meanOf}
 use Rattle.gears.specs.Rules.{emptyGear, gearAt, a, firstNotFalling, gap, near, nearer, nearest, jOf, firstBelow, oneAt, acrossOf, choiceOf, kOf}
 use Rattle.session.specs.Session.{slowEnough, gearAcceleration, byWindow, stateOf, lowestNoWindow, remainingFrom, remaining, gearsOf, windowsOf}
 use Rattle.urban.specs.Urban.{weighedLevel, basisOf, partPower, lUrbanOf, outcomeOf}
 use Rattle.result.specs.Result.{resultBytes, outcomeIn, fieldsOf}
-use Rattle.decision.specs.Decision.{windowAt, measuredBy, measuredAt, oneOf, pairOf, selectedIn, finishBy, decideGears, decideWhole, trackOf, decideBy, decisionOf, sheetVehicle, sheetClosing, sheetSession, pmrIn, referenceIn, choiceIn, selectionIn}
-use Rattle.evaluation.specs.Answer.{answerBy, answerOf, bufferBy, bufferOf}
+use Rattle.decision.specs.Decision.{windowAt, measuredBy, measuredAt, oneOf, pairOf, selectedIn, finishBy, decideGears, decideWhole, trackOf, decideBy, decisionOver, sheetVehicle, sheetClosing, sheetBackgrounds, decisionOf, sheetSession, pmrIn, referenceIn, choiceIn, selectionIn}
+use Rattle.evaluation.specs.Answer.{answerBy, answerFor, answerOf, bufferBy, bufferOf}
+use Rattle.evaluation.specs.EarlierSheets.{oneBackground, decisionOverOne, unnamedGood, HadResult}
 use Rattle.evaluation.specs.Demand.{chosenRuns}
 use Rattle.text.specs.Text.{digitsOf, decimalOf, spaced, lineWith}
 use Rattle.line.specs.Line.{acceptedWord, lineOf, lineOfSheet}
-use Rattle.examples.specs.Starred.{Example, gives, shouldGive, starred, workedSheet}
+use Rattle.examples.specs.Starred.{Example, gives, shouldGive, starred, sided, workedWith, workedSheet}
 
 unfoldable pub same : List ℕ → List ℕ → Bool
 same [] [] = true
@@ -67,32 +74,76 @@ louderLine =
     79 ∷ 75 ∷ 32 ∷ 51 ∷ 32 ∷ 51 ∷ 32 ∷ 52 ∷ 32 ∷ 55 ∷ 56 ∷ 32 ∷ 50 ∷ 57 ∷ 32 ∷ 55 ∷ 50 ∷ 55 ∷ 32 ∷ 54 ∷ 53 ∷ 56
     ∷ 32 ∷ 55 ∷ 49 ∷ 32 ∷ 49 ∷ 48 ∷ 54 ∷ 32 ∷ 49 ∷ 52 ∷ 57 ∷ 32 ∷ 54 ∷ 54 ∷ 55 ∷ 32 ∷ 49 ∷ 52 ∷ 57 ∷ 32 ∷ 49 ∷ 10 ∷ []
 
-runsTest : List ℕ → Bool
-runsTest s = same (chosenRuns s) workedRuns
+-- ---- the worked sheet with one background
 
-louderTest : Bool
-louderTest = same (lineOfSheet louderSheet) louderLine
+abbrev accepted : Answer → Bool
+accepted answer.Accepted = true
+accepted (answer.Refused r) = false
+
+accepted→≡ : (a : Answer) → T (accepted a) → a ≡ answer.Accepted
+accepted→≡ answer.Accepted t = refl
+accepted→≡ (answer.Refused r) t = absurd t
+
+-- the layout of a vehicle record and of a closing record without a background of the right side
+abbrev earlierVehicle : List ℕ → Bool
+earlierVehicle s = allOf (vehicleTests unnamedGood (recordAt s 0))
+
+abbrev earlierClosing : List ℕ → Bool
+earlierClosing s = allOf (closingTests unnamedGood (recordAt s (lastOf s)))
 
 -- ---- the test
 
-computed : T (allOf (map test starred) && (runsTest workedSheet && (runsTest louderSheet && louderTest)))
-unfolding starred same test runsTest louderTest number lowest some pastLast rounded corrections correctionOf correctedSide sideOf inRange tenthsOf readingOf ofBits pmrOf between aUrban aRef referenceAt records recordAt zeros vehicleTests vehicleGood vehicleIn runTests runGood runIn readingFrom closingTests closingGood closingIn wrongSize noVehicle noClosing goodAt lowestBroken examined anyAcceleration hasAcceleration bothSides validOf candidateOf restFrom restOf windowOf spanned fitting emptyRun fourAt firstPlace firstWindow largerSum conditionLevel emptyFour accelerationOf meanOf emptyGear gearAt a firstNotFalling gap near nearer nearest jOf firstBelow oneAt acrossOf choiceOf kOf slowEnough gearAcceleration byWindow stateOf lowestNoWindow remainingFrom remaining gearsOf windowsOf weighedLevel basisOf partPower lUrbanOf outcomeOf windowAt measuredBy measuredAt oneOf pairOf selectedIn finishBy decideGears decideWhole trackOf decideBy decisionOf sheetVehicle sheetClosing sheetSession pmrIn referenceIn choiceIn selectionIn resultBytes outcomeIn fieldsOf answerBy answerOf bufferBy bufferOf digitsOf decimalOf spaced lineWith acceptedWord lineOf lineOfSheet chosenRuns
+tests : List Bool
+tests =
+    allOf (map test starred)
+    ∷ allOf (map test sided)
+    ∷ same (chosenRuns workedSheet) workedRuns
+    ∷ same (chosenRuns louderSheet) workedRuns
+    ∷ same (lineOfSheet louderSheet) louderLine
+    ∷ earlierVehicle workedSheet
+    ∷ earlierClosing workedSheet
+    ∷ accepted (answerFor (decisionOverOne workedSheet) 32)
+    ∷ not (earlierVehicle (workedWith 1))
+    ∷ []
+
+computed : T (allOf tests)
+unfolding tests starred sided same test number lowest some pastLast rounded corrections correctionOf correctedSide sideOf inRange tenthsOf readingOf ofBits pmrOf between aUrban aRef referenceAt records recordAt zeros backgroundsIn vehicleTests vehicleGood vehicleIn runTests runGood runIn readingFrom closingTests closingGood closingIn wrongSize noVehicle noClosing goodAt lowestBroken examined anyAcceleration hasAcceleration backgroundsOf bothSides validOf candidateOf restFrom restOf windowOf spanned fitting emptyRun fourAt firstPlace firstWindow largerSum conditionLevel emptyFour accelerationOf meanOf emptyGear gearAt a firstNotFalling gap near nearer nearest jOf firstBelow oneAt acrossOf choiceOf kOf slowEnough gearAcceleration byWindow stateOf lowestNoWindow remainingFrom remaining gearsOf windowsOf weighedLevel basisOf partPower lUrbanOf outcomeOf windowAt measuredBy measuredAt oneOf pairOf selectedIn finishBy decideGears decideWhole trackOf decideBy decisionOver sheetVehicle sheetClosing sheetBackgrounds decisionOf sheetSession pmrIn referenceIn choiceIn selectionIn resultBytes outcomeIn fieldsOf answerBy answerOf bufferBy bufferOf oneBackground digitsOf decimalOf spaced lineWith acceptedWord lineOf lineOfSheet chosenRuns
 computed = tt
 
-pub every-starred-test : T (allOf (map test starred))
-every-starred-test = and-l (allOf (map test starred)) (runsTest workedSheet && (runsTest louderSheet && louderTest)) computed
+passed : (k : ℕ) → T (getD tests k true)
+passed = each tests computed
 
-others : T (runsTest workedSheet && (runsTest louderSheet && louderTest))
-others = and-r (allOf (map test starred)) (runsTest workedSheet && (runsTest louderSheet && louderTest)) computed
+pub every-starred-test : T (allOf (map test starred))
+unfolding tests
+every-starred-test = passed 0
+
+pub every-sided-test : T (allOf (map test sided))
+unfolding tests
+every-sided-test = passed 1
 
 pub worked-runs : chosenRuns workedSheet ≡ workedRuns
-unfolding runsTest
-worked-runs = same→≡ (chosenRuns workedSheet) workedRuns (and-l (runsTest workedSheet) (runsTest louderSheet && louderTest) others)
+unfolding tests
+worked-runs = same→≡ (chosenRuns workedSheet) workedRuns (passed 2)
 
 pub louder-runs : chosenRuns louderSheet ≡ workedRuns
-unfolding runsTest
-louder-runs = same→≡ (chosenRuns louderSheet) workedRuns (and-l (runsTest louderSheet) louderTest (and-r (runsTest workedSheet) (runsTest louderSheet && louderTest) others))
+unfolding tests
+louder-runs = same→≡ (chosenRuns louderSheet) workedRuns (passed 3)
 
 pub louder-line : lineOfSheet louderSheet ≡ louderLine
-unfolding louderTest
-louder-line = same→≡ (lineOfSheet louderSheet) louderLine (and-r (runsTest louderSheet) louderTest (and-r (runsTest workedSheet) (runsTest louderSheet && louderTest) others))
+unfolding tests
+louder-line = same→≡ (lineOfSheet louderSheet) louderLine (passed 4)
+
+-- the worked sheet is one that had a result
+pub worked-had-result : HadResult workedSheet 32
+unfolding tests
+worked-had-result =
+    record {
+      vehicle = is-true (earlierVehicle workedSheet) (passed 5);
+      closing = is-true (earlierClosing workedSheet) (passed 6);
+      accepted = accepted→≡ (answerFor (decisionOverOne workedSheet) 32) (passed 7);
+    }
+
+-- with 0.1 on the right before, the layout without that field refuses it
+pub refused-for-byte-18 : earlierVehicle (workedWith 1) ≡ false
+unfolding tests
+refused-for-byte-18 = not-true (earlierVehicle (workedWith 1)) (is-true (not (earlierVehicle (workedWith 1))) (passed 8))

@@ -1,11 +1,15 @@
--- The starred examples of document 01 ("Driven examples"), that of d 10.9 as wish 2 of document 02 has it: for each, what the rules give
--- and what they should give, as numbers.
+-- The starred examples of document 01 ("Driven examples"), that of d 10.9 as wish 2 of document 02 has it, and sessions with a background on
+-- each side (wish 8): for each, what the rules give and what they should give, as numbers.
 -- Levels are in tenths of dB(A), accelerations in hundredths of m/s², speeds in tenths of km/h; floats are written by their bit patterns.
 use mathlib.Core.Path.{_≡_}
 use mathlib.Core.List.{List, [], _∷_, _++_, map}
 use Prim.Native.Nat.{ℕ, zero, suc, _+_, _%_, _/_}
 use lib.Ieee.{binary32, ofBits}
 use lib.ListN.{replicate}
+use Rattle.units.specs.Bytes.{number}
+use Rattle.refusal.specs.declared.Answer.{Answer}
+use Rattle.refusal.specs.declared.Answer.the-variants as answer
+use Rattle.refusal.specs.Refusal.{numberOf, placeOf}
 use Rattle.level.specs.declared.Side.{Side}
 use Rattle.level.specs.declared.Side.the-variants as side
 use Rattle.level.specs.Level.{tenthsOf, correctedSide}
@@ -21,6 +25,8 @@ use Rattle.gears.specs.declared.Choice.the-variants as choice
 use Rattle.gears.specs.Acceleration.{accelerationOf}
 use Rattle.gears.specs.Rules.{choiceOf}
 use Rattle.urban.specs.Urban.{lUrbanOf}
+use Rattle.decision.specs.Decision.{sheetBackgrounds}
+use Rattle.evaluation.specs.Answer.{answerOf, bufferOf}
 use Rattle.evaluation.specs.Demand.{numbersOf}
 use Rattle.line.specs.Line.{lineOfSheet}
 
@@ -41,6 +47,8 @@ pub data Example : Type 0 where
   powered : ℕ → ℕ → ℕ → ℕ → ℕ → ℕ → Example
   -- the bytes of a sheet; the bytes of the line that the program prints
   printed : List ℕ → List ℕ → Example
+  -- the bytes of a sheet; the left and the right background and C, or the number and the place of its refusal
+  evaluated : List ℕ → List ℕ → Example
 
 -- ---- what the rules give, as numbers
 
@@ -70,6 +78,10 @@ choiceGives (choice.One rule p) = rule ∷ (p + 1) ∷ []
 choiceGives (choice.Pair rule p) = rule ∷ (p + 1) ∷ (p + 2) ∷ []
 choiceGives choice.Nothing = []
 
+abbrev pub evaluationGives : List ℕ → Answer → List ℕ
+evaluationGives s answer.Accepted = sheetBackgrounds s .left .0 ∷ sheetBackgrounds s .right .0 ∷ number (bufferOf s (replicate 32 0)) 8 2 ∷ []
+evaluationGives s (answer.Refused r) = numberOf r ∷ placeOf r ∷ []
+
 abbrev pub gives : Example → List ℕ
 gives (tenths pattern n) = tenthsOf (ofBits binary32 pattern) ∷ []
 gives (corrected level background n) = sideGives (correctedSide level background)
@@ -79,6 +91,7 @@ gives (accelerated path start end n) = accelerationOf start end path ∷ []
 gives (chosen R u accelerations numbers) = choiceGives (choiceOf (referred 0 u R) (gearsWith accelerations))
 gives (powered q u a w c kp) = lUrbanOf (referred q u 0) a w c .kp ∷ []
 gives (printed s line) = lineOfSheet s
+gives (evaluated s numbers) = evaluationGives s (answerOf s 32)
 
 abbrev pub shouldGive : Example → List ℕ
 shouldGive (tenths pattern n) = n ∷ []
@@ -89,6 +102,7 @@ shouldGive (accelerated path start end n) = n ∷ []
 shouldGive (chosen R u accelerations numbers) = numbers
 shouldGive (powered q u a w c kp) = kp ∷ []
 shouldGive (printed s line) = line
+shouldGive (evaluated s numbers) = numbers
 
 -- an example holds if the rules give what they should
 abbrev pub Holds : Example → Type 0
@@ -111,11 +125,21 @@ run kind gear start end left right =
 abbrev pub four : List ℕ → List ℕ
 four r = r ++ r ++ r ++ r
 
-abbrev pub workedSheet : List ℕ
-workedSheet =
-    -- M1, from AA', P 100.0 kW, m 1,500 kg, length 450 cm, S 6,000, background 40.0, limit 72
+-- M1, from AA', P 100.0 kW, m 1,500 kg, length 450 cm, S 6,000, left background 40.0, limit 72; given: the right background before
+abbrev pub vehicle : ℕ → List ℕ
+vehicle right =
     (1 ∷ 1 ∷ 0 ∷ 0 ∷ [])
-    ++ bytesOf 2 1000 ++ bytesOf 2 1500 ++ bytesOf 2 450 ++ bytesOf 2 6000 ++ bytesOf 2 400 ++ bytesOf 2 72 ++ replicate 16 0
+    ++ bytesOf 2 1000 ++ bytesOf 2 1500 ++ bytesOf 2 450 ++ bytesOf 2 6000 ++ bytesOf 2 400 ++ bytesOf 2 72 ++ bytesOf 2 0 ++ bytesOf 2 right
+    ++ replicate 12 0
+
+-- given: the number of runs, the left and the right background after
+abbrev pub closing : ℕ → ℕ → ℕ → List ℕ
+closing runs left right = (9 ∷ 0 ∷ []) ++ bytesOf 2 runs ++ bytesOf 2 left ++ bytesOf 2 right ++ replicate 24 0
+
+-- given: the right background before
+abbrev pub workedWith : ℕ → List ℕ
+workedWith right =
+    vehicle right
     -- acceleration, gear 2: 74.0 on both sides
     ++ four (run 2 2 430 570 0x4294_0000 0x4294_0000)
     -- gear 3: 72.5 twice and 72.25 twice on the left, 71.5 on the right
@@ -126,8 +150,11 @@ workedSheet =
     -- constant speed, gear 3: 66.0 and 65.5; gear 4: 65.0 and 65.1875
     ++ four (run 3 3 500 500 0x4284_0000 0x4283_0000)
     ++ four (run 3 4 500 500 0x4282_0000 0x4282_6000)
-    -- 20 runs, background 40.0
-    ++ (9 ∷ 0 ∷ []) ++ bytesOf 2 20 ++ bytesOf 2 400 ++ replicate 26 0
+    -- 20 runs, left background 40.0
+    ++ closing 20 400 0
+
+abbrev pub workedSheet : List ℕ
+workedSheet = workedWith 0
 
 -- "OK 3 3 4 78 29 719 658 70 106 149 667 149 1" and a line feed, in ASCII codes
 abbrev pub workedLine : List ℕ
@@ -157,4 +184,38 @@ starred =
     ∷ powered 667 106 100 700 650 0
     -- the worked sheet
     ∷ printed workedSheet workedLine
+    ∷ []
+
+-- ---- a background on each side
+
+-- gear 3 alone: 70.0 on the left and 72.0 on the right, at constant speed 65.0 and 66.0; the right background before, the left and the right after
+abbrev pub sidedSheet : ℕ → ℕ → ℕ → List ℕ
+sidedSheet rightBefore leftAfter rightAfter =
+    vehicle rightBefore
+    ++ four (run 2 3 442 545 0x428c_0000 0x4290_0000)
+    ++ four (run 3 3 500 500 0x4282_0000 0x4284_0000)
+    ++ closing 8 leftAfter rightAfter
+
+unfoldable pub sided : List Example
+sided =
+    -- zero on the right, before and after: the left's
+    evaluated (sidedSheet 0 400 0) (400 ∷ 400 ∷ 660 ∷ [])
+    -- 56.0 on the right, before or after: at constant speed d is 10.0 there, and 0.5 is taken off
+    ∷ evaluated (sidedSheet 560 400 0) (400 ∷ 560 ∷ 655 ∷ [])
+    ∷ evaluated (sidedSheet 0 400 560) (400 ∷ 560 ∷ 655 ∷ [])
+    -- zero stands for the left of its own record: beside 0.1 before it is the left's after, 40.0 or 54.0; beside 0.1 after, the left's before
+    ∷ evaluated (sidedSheet 1 400 0) (400 ∷ 400 ∷ 660 ∷ [])
+    ∷ evaluated (sidedSheet 1 540 0) (540 ∷ 540 ∷ 657 ∷ [])
+    ∷ evaluated (sidedSheet 0 540 1) (540 ∷ 400 ∷ 660 ∷ [])
+    -- 0.1 before and after: the right has 0.1, whatever the left
+    ∷ evaluated (sidedSheet 1 540 1) (540 ∷ 1 ∷ 660 ∷ [])
+    -- 56.1 on the right: d is 9.9 at constant speed, and no run counts
+    ∷ evaluated (sidedSheet 561 400 0) (10 ∷ 3 ∷ [])
+    -- 100.0 is the most that either right field may hold
+    ∷ evaluated (sidedSheet 1000 400 0) (7 ∷ 3 ∷ [])
+    ∷ evaluated (sidedSheet 1001 400 0) (5 ∷ 0 ∷ [])
+    ∷ evaluated (sidedSheet 0 400 1000) (7 ∷ 3 ∷ [])
+    ∷ evaluated (sidedSheet 0 400 1001) (5 ∷ 9 ∷ [])
+    -- the worked sheet with 0.1 on the right before, whose byte 18 alone a layout without that field refuses
+    ∷ printed (workedWith 1) workedLine
     ∷ []

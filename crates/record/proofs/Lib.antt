@@ -4,4 +4,5 @@ pub mod VehicleRanges
 pub mod ClosingRanges
 pub mod Readings
 pub mod Layouts
+pub mod RightBackground
 pub mod SameBytes

@@ -6,7 +6,7 @@ use Prim.Native.Nat.{ℕ, _≤_}
 use lib.Dec.{T, eqb→eq}
 use lib.ListN.{length, getD}
 use Rattle.units.proofs.Tests.{each}
-use Rattle.record.specs.Records.{byte, word, vehicleTests, vehicleGood}
+use Rattle.record.specs.Records.{byte, word, rightGood, vehicleTests, vehicleGood}
 use Rattle.record.proofs.Fields.{inside}
 
 pub record VehicleRanges (r : List ℕ) : Type 0 where
@@ -16,8 +16,9 @@ pub record VehicleRanges (r : List ℕ) : Type 0 where
   pub power : (10 ≤ word r 4) × (word r 4 ≤ 20000)
   pub mass : (300 ≤ word r 6) × (word r 6 ≤ 5000)
   pub «length» : (100 ≤ word r 8) × (word r 8 ≤ 2000)
-  pub background : word r 12 ≤ 1000
+  pub left-background : word r 12 ≤ 1000
   pub limit : (50 ≤ word r 14) × (word r 14 ≤ 100)
+  pub right-background : word r 18 ≤ 1000
 
 pub vehicle-ranges : (r : List ℕ) → vehicleGood r ≡ true → VehicleRanges r
 unfolding vehicleGood vehicleTests
@@ -29,9 +30,10 @@ vehicle-ranges r e =
       power = inside 10 20000 (word r 4) (test 5);
       mass = inside 300 5000 (word r 6) (test 6);
       «length» = inside 100 2000 (word r 8) (test 7);
-      background = inside 0 1000 (word r 12) (test 9) .1;
+      left-background = inside 0 1000 (word r 12) (test 9) .1;
       limit = inside 50 100 (word r 14) (test 10);
+      right-background = inside 0 1000 (word r 18) (test 12) .1;
     }
   where
-    test : (k : ℕ) → T (getD (vehicleTests r) k true)
-    test = each (vehicleTests r) (rw e tt)
+    test : (k : ℕ) → T (getD (vehicleTests rightGood r) k true)
+    test = each (vehicleTests rightGood r) (rw e tt)

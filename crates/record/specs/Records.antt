@@ -1,5 +1,5 @@
--- Records of 32 bytes: their fields, and the layout of each kind (document 01, "The sheet"). A layout is a list of tests: every field with its
--- range, and every zero byte.
+-- Records of 32 bytes: their fields, and the layout of each kind (document 01, "The sheet"; document 02, wish 8). A layout is a list of tests:
+-- every field with its range, and every zero byte.
 use mathlib.Core.Bool.{Bool, true, false, cond, not, _&&_, _||_}
 use mathlib.Core.List.{List, [], _∷_}
 use Prim.Native.Nat.{ℕ, zero, suc, _+_, _*_, _/_}
@@ -13,6 +13,7 @@ use Rattle.level.specs.declared.Reading.the-variants.{Level, Overload, Absent}
 use Rattle.level.specs.declared.Found.{Found}
 use Rattle.level.specs.declared.Found.the-variants as found
 use Rattle.level.specs.Reading.{readingOf}
+use Rattle.record.specs.declared.Backgrounds.{Backgrounds}
 use Rattle.record.specs.declared.Vehicle.{Vehicle}
 use Rattle.record.specs.declared.Run.{Run}
 use Rattle.record.specs.declared.Closing.{Closing}
@@ -43,10 +44,23 @@ unfoldable pub zeros : List ℕ → ℕ → ℕ → Bool
 zeros r at zero = true
 zeros r at (suc count) = eqb (byte r at) 0 && zeros r (at + 1) count
 
+-- ---- the right side's background (wish 8)
+
+-- what is asked of its two bytes, from `at` on: tenths of dB(A), in the range of the left's
+abbrev pub rightGood : List ℕ → ℕ → Bool
+rightGood r at = within 0 1000 (word r at)
+
+-- the backgrounds of a record, from its left and its right field: where the right field holds 0, both sides have the left's of that record
+unfoldable pub backgroundsIn : List ℕ → ℕ → ℕ → Backgrounds
+backgroundsIn r left right =
+    record { left = record { 0 = word r left }; right = record { 0 = cond (eqb (word r right) 0) (word r left) (word r right) } }
+
 -- ---- the vehicle record
 
-unfoldable pub vehicleTests : List ℕ → List Bool
-vehicleTests r =
+-- its tests; what is asked of the right side's background is a parameter, so that the layout without that field has the same text
+-- (`evaluation/specs/EarlierSheets`)
+unfoldable pub vehicleTests : (List ℕ → ℕ → Bool) → List ℕ → List Bool
+vehicleTests asked r =
     eqb (length r) 32
     ∷ eqb (byte r 0) 1
     -- category: M1 or N1
@@ -62,15 +76,18 @@ vehicleTests r =
     ∷ within 100 2000 (word r 8)
     -- rated engine speed S, per minute
     ∷ within 500 20000 (word r 10)
-    -- background before, tenths of dB(A)
+    -- the left side's background before, tenths of dB(A)
     ∷ within 0 1000 (word r 12)
     -- limit, whole dB(A)
     ∷ within 50 100 (word r 14)
-    ∷ zeros r 16 16
+    ∷ zeros r 16 2
+    -- the right side's background before
+    ∷ asked r 18
+    ∷ zeros r 20 12
     ∷ []
 
 unfoldable pub vehicleGood : List ℕ → Bool
-vehicleGood r = allOf (vehicleTests r)
+vehicleGood r = allOf (vehicleTests rightGood r)
 
 unfoldable pub vehicleIn : List ℕ → Vehicle
 vehicleIn r =
@@ -81,7 +98,7 @@ vehicleIn r =
       mass = word r 6;
       length = word r 8;
       «rated_speed» = word r 10;
-      background = record { 0 = word r 12 };
+      backgrounds = backgroundsIn r 12 18;
       limit = word r 14;
     }
 
@@ -143,19 +160,21 @@ readingFrom kind x = cond (eqb kind 1) (Level x) (cond (eqb kind 2) (Overload x)
 
 -- ---- the closing record. Row 4 of the refusals asks for the number of runs, at 2.
 
-unfoldable pub closingTests : List ℕ → List Bool
-closingTests r =
+unfoldable pub closingTests : (List ℕ → ℕ → Bool) → List ℕ → List Bool
+closingTests asked r =
     eqb (length r) 32
     ∷ eqb (byte r 0) 9
     ∷ zeros r 1 1
-    -- background after, tenths of dB(A)
+    -- the left side's background after, tenths of dB(A)
     ∷ within 0 1000 (word r 4)
-    ∷ zeros r 6 26
+    -- the right side's background after
+    ∷ asked r 6
+    ∷ zeros r 8 24
     ∷ []
 
 unfoldable pub closingGood : List ℕ → Bool
-closingGood r = allOf (closingTests r)
+closingGood r = allOf (closingTests rightGood r)
 
--- the number of run records, and the background after
+-- the number of run records, and the backgrounds after
 unfoldable pub closingIn : List ℕ → Closing
-closingIn r = record { runs = word r 2; background = record { 0 = word r 4 } }
+closingIn r = record { runs = word r 2; backgrounds = backgroundsIn r 4 6 }

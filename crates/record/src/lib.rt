@@ -11,7 +11,7 @@ ghost use lib.Ieee.{binary32, nanBits};
 ghost use lib.Dec.{leb, eqb};
 ghost use Rattle.units.specs.Bytes.{number};
 ghost use Rattle.level.specs.Reading.{readingOf};
-ghost use Rattle.record.specs.Records.{recordAt, byte, word, within, zeros, vehicleGood, vehicleIn, pathOf, runIn, readingFrom, readable, runGood, closingGood, closingIn};
+ghost use Rattle.record.specs.Records.{recordAt, byte, word, within, zeros, backgroundsIn, vehicleGood, vehicleIn, pathOf, runIn, readingFrom, readable, runGood, closingGood, closingIn};
 
 // A record: the constants that belong to it, and how one is shown.
 pub struct Record;
@@ -78,6 +78,28 @@ fn blank(r: &[u8], at: usize, end: usize) -> bool
     ok
 }
 
+// ---- the backgrounds of a record
+
+// The background at each microphone.
+pub struct Backgrounds {
+    pub left: Tenths,
+    pub right: Tenths,
+}
+
+// The backgrounds of the fields at `left` and `right`; zero on the right stands for the left's.
+fn backgrounds_in(r: &[u8], left: usize, right: usize) -> Backgrounds
+    requires { ⌜ (left + 2 ≤ length (now r)) × (right + 2 ≤ length (now r)) ⌝ }
+    ensures { λ b. ⌜ b ≡ backgroundsIn (now (r .entry)) left right ⌝ }
+{
+    let l = units::number16(r, left);
+    let w = units::number16(r, right);
+    let own = if w == 0 { l } else { w };
+    Backgrounds {
+        left: Tenths(l),
+        right: Tenths(own),
+    }
+}
+
 // ---- the vehicle record
 
 pub struct Vehicle {
@@ -94,7 +116,7 @@ pub struct Vehicle {
     // S, per minute
     pub rated_speed: u16,
     // before the runs
-    pub background: Tenths,
+    pub backgrounds: Backgrounds,
     // whole dB(A)
     pub limit: u16,
 }
@@ -115,7 +137,9 @@ pub fn vehicle_good(r: &[u8]) -> bool
         & word_within(r, 10, 500, 20000)
         & word_within(r, 12, 0, 1000)
         & word_within(r, 14, 50, 100)
-        & blank(r, 16, 32)
+        & blank(r, 16, 18)
+        & word_within(r, 18, 0, 1000)
+        & blank(r, 20, 32)
 }
 
 pub fn vehicle_in(r: &[u8]) -> Vehicle
@@ -129,7 +153,7 @@ pub fn vehicle_in(r: &[u8]) -> Vehicle
         mass: units::number16(r, 6),
         length: units::number16(r, 8),
         rated_speed: units::number16(r, 10),
-        background: Tenths(units::number16(r, 12)),
+        backgrounds: backgrounds_in(r, 12, 18),
         limit: units::number16(r, 14),
     }
 }
@@ -259,7 +283,7 @@ pub struct Closing {
     // the number of run records
     pub runs: u16,
     // after the runs
-    pub background: Tenths,
+    pub backgrounds: Backgrounds,
 }
 
 pub fn closing_good(r: &[u8]) -> bool
@@ -268,7 +292,11 @@ pub fn closing_good(r: &[u8]) -> bool
     if r.len() != Record::SIZE {
         return false;
     }
-    (r[0] == Record::CLOSING) & blank(r, 1, 2) & word_within(r, 4, 0, 1000) & blank(r, 6, 32)
+    (r[0] == Record::CLOSING)
+        & blank(r, 1, 2)
+        & word_within(r, 4, 0, 1000)
+        & word_within(r, 6, 0, 1000)
+        & blank(r, 8, 32)
 }
 
 pub fn closing_in(r: &[u8]) -> Closing
@@ -277,6 +305,6 @@ pub fn closing_in(r: &[u8]) -> Closing
 {
     Closing {
         runs: units::number16(r, 2),
-        background: Tenths(units::number16(r, 4)),
+        backgrounds: backgrounds_in(r, 4, 6),
     }
 }

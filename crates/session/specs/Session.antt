@@ -21,7 +21,7 @@ use Rattle.session.specs.declared.State.{State}
 use Rattle.session.specs.declared.State.the-variants.{Remains, Dropped, NoWindow, NoRun}
 use Rattle.session.specs.declared.Table.{Table}
 
--- what the evaluation goes by: the bytes of the sheet, and the background, S and path that its first and last record give
+-- what the evaluation goes by: the bytes of the sheet, and the track, with backgrounds, S and path
 pub record Session : Type 0 where
   pub sheet : List ℕ
   pub track : Track
@@ -29,9 +29,9 @@ pub record Session : Type 0 where
 abbrev pub sessionOf : List ℕ → Track → Session
 sessionOf s track = record { sheet = s; track = track }
 
--- a gear and a run kind over the track's background
+-- a gear and a run kind over the track's backgrounds
 abbrev pub conditionOf : Track → ℕ → ℕ → Condition
-conditionOf track kind gear = record { background = track .background; kind = kind; gear = gear }
+conditionOf track kind gear = record { backgrounds = track .backgrounds; kind = kind; gear = gear }
 
 -- the window of a run kind and a gear
 abbrev pub windowIn : Session → ℕ → ℕ → Window

@@ -1,8 +1,8 @@
 // A session's gears: from a whole sheet to what becomes of each gear, and the table of those that remain. Which of them are chosen is not decided here.
 use gears::Gear;
+use record::Backgrounds;
 use record::Record;
 use units::Hundredths;
-use units::Tenths;
 use valid_runs::Condition;
 use window::Four;
 use window::Window;
@@ -15,8 +15,8 @@ ghost use Rattle.session.specs.Session.{sessionOf, conditionOf, windowIn
 
 // What a session is evaluated by, beside its runs.
 pub struct Track {
-    // the larger of before and after
-    pub background: Tenths,
+    // of each side the larger of the two, before and after
+    pub backgrounds: Backgrounds,
     // S, per minute
     pub rated: u16,
     // c + length, cm
@@ -24,13 +24,13 @@ pub struct Track {
 }
 
 impl Track {
-    // A gear and a run kind over the track's background.
+    // A gear and a run kind over the track's backgrounds.
     pub fn condition(self, kind: u8, gear: u8) -> Condition
         ensures { λ r. ⌜ r ≡ conditionOf self kind gear ⌝ }
     {
-        let background = self.background;
+        let backgrounds = self.backgrounds;
         Condition {
-            background,
+            backgrounds,
             kind,
             gear,
         }

@@ -1,5 +1,6 @@
 -- Sheets that are good and sheets that are not: each end of each field's range and the number beyond it, each unnamed byte, readings,
--- sizes and misplaced records. The outcomes are document 01's; one test computes that the definition gives each. Assumes nothing.
+-- sizes and misplaced records. The outcomes are those of document 01 with wish 8 of document 02; one test computes that the definition gives
+-- each. Assumes nothing.
 use mathlib.Core.Bool.{Bool}
 use mathlib.Core.List.{List, [], _∷_, _++_, map}
 use Prim.Native.Nat.{ℕ, zero, suc, _+_, _*_, _/_}
@@ -96,10 +97,14 @@ fields =
     ∷ edit 10 (244 ∷ 1 ∷ []) (good)
     ∷ edit 10 (32 ∷ 78 ∷ []) (good)
     ∷ edit 10 (33 ∷ 78 ∷ []) (refusal 5 0)
-    -- background before
+    -- the left side's background before, then the right's, low byte first
     ∷ edit 12 (0 ∷ 0 ∷ []) (good)
     ∷ edit 12 (232 ∷ 3 ∷ []) (good)
     ∷ edit 12 (233 ∷ 3 ∷ []) (refusal 5 0)
+    ∷ edit 18 (1 ∷ 0 ∷ []) (good)
+    ∷ edit 18 (232 ∷ 3 ∷ []) (good)
+    ∷ edit 18 (233 ∷ 3 ∷ []) (refusal 5 0)
+    ∷ edit 18 (3 ∷ 232 ∷ []) (refusal 5 0)
     -- limit
     ∷ edit 14 (49 ∷ 0 ∷ []) (refusal 5 0)
     ∷ edit 14 (50 ∷ 0 ∷ []) (good)
@@ -118,10 +123,14 @@ fields =
     ∷ edit 52 (0 ∷ 0 ∷ []) (good)
     ∷ edit 52 (32 ∷ 78 ∷ []) (good)
     ∷ edit 52 (33 ∷ 78 ∷ []) (refusal 5 1)
-    -- background after
+    -- the left side's background after, then the right's
     ∷ edit 68 (0 ∷ 0 ∷ []) (good)
     ∷ edit 68 (232 ∷ 3 ∷ []) (good)
     ∷ edit 68 (233 ∷ 3 ∷ []) (refusal 5 2)
+    ∷ edit 70 (1 ∷ 0 ∷ []) (good)
+    ∷ edit 70 (232 ∷ 3 ∷ []) (good)
+    ∷ edit 70 (233 ∷ 3 ∷ []) (refusal 5 2)
+    ∷ edit 70 (3 ∷ 232 ∷ []) (refusal 5 2)
     -- speeds, as a constant-speed run: at the start line, then at BB'
     ∷ edit 32 (3 ∷ []) good
     ∷ other (sets (sets sheet 32 (3 ∷ [])) 48 (9 ∷ 0 ∷ [])) (refusal 5 1)
@@ -181,7 +190,7 @@ strings =
 
 examples : List Example
 examples =
-    fields ++ readings ++ strings ++ unnamed 3 1 ++ unnamed 16 16 ++ unnamed 37 3 ++ unnamed 54 10 ++ unnamed 65 1 ++ unnamed 70 26
+    fields ++ readings ++ strings ++ unnamed 3 1 ++ unnamed 16 2 ++ unnamed 20 12 ++ unnamed 37 3 ++ unnamed 54 10 ++ unnamed 65 1 ++ unnamed 72 24
 
 every-holds : T (allOf (map holds examples))
 unfolding refusal good outcome vehicle run closing sheet holds unnamed reading fields readings strings examples examined wrongSize noVehicle noClosing lowestBroken goodAt records recordAt zeros vehicleTests vehicleGood runTests runGood closingTests closingGood number lowest readingOf inRange ofBits

@@ -1,11 +1,11 @@
--- What a valid run is: a record of the sheet, of its kind and its gear, whose two sides count. Assumes nothing.
+-- What a valid run is: a record of the sheet, of its kind and its gear, whose two sides count; and how its levels rise. Assumes nothing.
 use mathlib.Core.Path.{_≡_, sym, ap}
-use mathlib.Core.Bool.{_&&_}
+use mathlib.Core.Bool.{false, _&&_}
 use mathlib.Core.List.{List}
-use Prim.Native.Nat.{ℕ}
+use Prim.Native.Nat.{ℕ, _≤_}
 use native.Mathlib.Omega.{arith}
 use lib.Dec.{eqb}
-use lib.Ieee.{binary32, ofBits}
+use lib.Ieee.{binary32, ofBits, lt}
 use borrow.Author.Tests.{eqb-true}
 use Rattle.units.specs.Bytes.{number}
 use Rattle.units.proofs.Tests.{by-test, both}
@@ -19,20 +19,21 @@ use Rattle.valid_runs.specs.declared.Condition.{Condition}
 use Rattle.valid_runs.specs.declared.Validity.{Validity}
 use Rattle.valid_runs.specs.declared.Validity.the-variants.{Valid, NotValid}
 use Rattle.valid_runs.specs.ValidRuns.{bothSides, validOf, candidateOf}
+use Rattle.valid_runs.proofs.Validities.{reading-rising}
 
 -- a valid run v, as record n has it
 pub record Counts (s : List ℕ) (o : Condition) (n : ℕ) (v : ValidRun) : Type 0 where
   pub is-kind : byte (recordAt s n) 0 ≡ o .kind
   pub is-gear : byte (recordAt s n) 1 ≡ o .gear
-  pub left : sideOf (readingFrom (byte (recordAt s n) 3) (ofBits binary32 (number (recordAt s n) 8 4))) (o .background .0) ≡ side.Corrected (v .left)
-  pub right : sideOf (readingFrom (byte (recordAt s n) 4) (ofBits binary32 (number (recordAt s n) 12 4))) (o .background .0) ≡ side.Corrected (v .right)
+  pub left : sideOf (readingFrom (byte (recordAt s n) 3) (ofBits binary32 (number (recordAt s n) 8 4))) (o .backgrounds .left .0) ≡ side.Corrected (v .left)
+  pub right : sideOf (readingFrom (byte (recordAt s n) 4) (ofBits binary32 (number (recordAt s n) 12 4))) (o .backgrounds .right .0) ≡ side.Corrected (v .right)
   pub start : v .start ≡ word (recordAt s n) 16
   pub end : v .end ≡ word (recordAt s n) 18
   pub engine : v .engine ≡ word (recordAt s n) 20
   pub at : v .number ≡ n
 
 -- the run that two sides make is v
-made : (run : Run) (n : ℕ) (l m : Side) (v : ValidRun) → bothSides run n l m ≡ Valid v → (l ≡ side.Corrected (v .left)) × (m ≡ side.Corrected (v .right)) × (v .start ≡ run .«start_speed») × (v .end ≡ run .«end_speed») × (v .engine ≡ run .«engine_speed») × (v .number ≡ n)
+pub made : (run : Run) (n : ℕ) (l m : Side) (v : ValidRun) → bothSides run n l m ≡ Valid v → (l ≡ side.Corrected (v .left)) × (m ≡ side.Corrected (v .right)) × (v .start ≡ run .«start_speed») × (v .end ≡ run .«end_speed») × (v .engine ≡ run .«engine_speed») × (v .number ≡ n)
 unfolding bothSides
 made run n (side.Corrected x) (side.Corrected y) v e =
     let same : _≡_ {A = ValidRun} (record { left = x; right = y; start = run .«start_speed»; end = run .«end_speed»; engine = run .«engine_speed»; number = n }) v = cc in
@@ -64,3 +65,11 @@ module _ (s : List ℕ) (o : Condition) where
     where
       Then : Validity → Type 0
       Then x = x ≡ Valid v → Counts s o n v
+
+-- A record that counts in two sheets over the same backgrounds, with readings of the same kinds and no lower float in the second: neither
+-- corrected level is lower there, since each side has the same background in both.
+pub levels-rising : (s s′ : List ℕ) (o o′ : Condition) (n : ℕ) (v v′ : ValidRun) → o .backgrounds ≡ o′ .backgrounds → Counts s o n v → Counts s′ o′ n v′ → byte (recordAt s n) 3 ≡ byte (recordAt s′ n) 3 → byte (recordAt s n) 4 ≡ byte (recordAt s′ n) 4 → lt (ofBits binary32 (number (recordAt s′ n) 8 4)) (ofBits binary32 (number (recordAt s n) 8 4)) ≡ false → lt (ofBits binary32 (number (recordAt s′ n) 12 4)) (ofBits binary32 (number (recordAt s n) 12 4)) ≡ false → (v .left .0 ≤ v′ .left .0) × (v .right .0 ≤ v′ .right .0)
+levels-rising s s′ o o′ n v v′ b c c′ p q left right = (
+  reading-rising (byte (recordAt s n) 3) _ _ (o .backgrounds .left .0) _ _ (c .left) (rw (p, b) (c′ .left)) left,
+  reading-rising (byte (recordAt s n) 4) _ _ (o .backgrounds .right .0) _ _ (c .right) (rw (q, b) (c′ .right)) right,
+)

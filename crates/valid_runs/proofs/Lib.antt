@@ -1,4 +1,5 @@
 pub mod Validities
 pub mod Counting
+pub mod OwnBackgrounds
 pub mod Seeking
 pub mod Members

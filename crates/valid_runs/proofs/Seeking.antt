@@ -54,7 +54,7 @@ module _ (s : List ℕ) (o : Condition) where
   unfolding candidateOf
   not-named n e = by (hasByte s 0 (o .kind) n) (hasByte s 1 (o .gear) n) e
     where
-      by : (a b : Bool) → b ≡ false → cond (a && b) (validOf (runIn (recordAt s n)) (o .background .0) n) NotValid ≡ NotValid
+      by : (a b : Bool) → b ≡ false → cond (a && b) (validOf (runIn (recordAt s n)) (o .backgrounds) n) NotValid ≡ NotValid
       by true b f = rw f
       by false b f = refl
 

@@ -11,21 +11,23 @@ use Rattle.level.specs.declared.Side.{Side}
 use Rattle.level.specs.declared.Side.the-variants as side
 use Rattle.level.specs.Level.{sideOf}
 use Rattle.level.proofs.Sides.{side-rising}
+use Rattle.record.specs.declared.Backgrounds.{Backgrounds}
 use Rattle.record.specs.declared.Run.{Run}
 use Rattle.record.specs.Records.{readingFrom}
 use Rattle.valid_runs.specs.declared.Validity.the-variants.{NotValid}
-use Rattle.valid_runs.specs.ValidRuns.{bothSides, validOf}
+use Rattle.valid_runs.specs.ValidRuns.{leftSide, rightSide, bothSides, validOf}
 
-module _ (run : Run) (background n : ℕ) where
-  pub struck-out : run .struck ≡ true → validOf run background n ≡ NotValid
+module _ (run : Run) (b : Backgrounds) (n : ℕ) where
+  pub struck-out : run .struck ≡ true → validOf run b n ≡ NotValid
   unfolding validOf
   struck-out e = simp e
 
   -- a run that is not struck goes by its sides
-  pub by-sides : run .struck ≡ false → (l r : Side) → l ≡ sideOf (readingFrom (run .«left_kind») (run .left)) background → r ≡ sideOf (readingFrom (run .«right_kind») (run .right)) background → validOf run background n ≡ bothSides run n l r
+  pub by-sides : run .struck ≡ false → (l r : Side) → l ≡ leftSide run b → r ≡ rightSide run b → validOf run b n ≡ bothSides run n l r
   unfolding validOf
   by-sides e l r p q = simp (e, p, q)
 
+module _ (run : Run) (n : ℕ) where
   pub left-out : (l r : Side) → l ≡ side.NotValid → bothSides run n l r ≡ NotValid
   unfolding bothSides
   left-out l r e = rw e (by r)

@@ -1,10 +1,12 @@
--- Valid runs, and the window of a condition (document 01, "From levels to windows", steps 2 to 4). Levels are in tenths of dB(A).
+-- Valid runs, and the window of a condition (document 01, "From levels to windows", steps 2 to 4; document 02, wish 8). Levels are in tenths of
+-- dB(A).
 use mathlib.Core.Bool.{cond, _&&_}
 use mathlib.Core.List.{List, [], _∷_}
 use Prim.Native.Nat.{ℕ, zero, suc, _+_, _-_, _≤_, max}
 use Rattle.level.specs.declared.Side.{Side}
 use Rattle.level.specs.declared.Side.the-variants as side
 use Rattle.level.specs.Level.{sideOf}
+use Rattle.record.specs.declared.Backgrounds.{Backgrounds}
 use Rattle.record.specs.declared.Run.{Run}
 use Rattle.record.specs.Records.{records, recordAt, runIn, readingFrom}
 use Rattle.sheet.specs.Sheet.{hasByte}
@@ -15,13 +17,27 @@ use Rattle.valid_runs.specs.declared.Condition.{Condition}
 use Rattle.valid_runs.specs.declared.Validity.{Validity}
 use Rattle.valid_runs.specs.declared.Validity.the-variants.{Valid, NotValid}
 
--- ---- step 2: the background
+-- ---- step 2, with wish 8: the background of each side
 
--- the larger of before and after
+-- of one side: the larger of the two, before and after
 abbrev pub backgroundOf : ℕ → ℕ → ℕ
 backgroundOf before after = max before after
 
+unfoldable pub backgroundsOf : Backgrounds → Backgrounds → Backgrounds
+backgroundsOf before after =
+    record {
+      left = record { 0 = backgroundOf (before .left .0) (after .left .0) };
+      right = record { 0 = backgroundOf (before .right .0) (after .right .0) };
+    }
+
 -- ---- step 3: validity
+
+-- the sides of a run, each over its own background (wish 8)
+abbrev pub leftSide : Run → Backgrounds → Side
+leftSide run b = sideOf (readingFrom (run .«left_kind») (run .left)) (b .left .0)
+
+abbrev pub rightSide : Run → Backgrounds → Side
+rightSide run b = sideOf (readingFrom (run .«right_kind») (run .right)) (b .right .0)
 
 -- a run whose two sides have these answers: it counts if both do
 unfoldable pub bothSides : Run → ℕ → Side → Side → Validity
@@ -31,17 +47,15 @@ bothSides run n (side.Corrected l) side.NotValid = NotValid
 bothSides run n side.NotValid (side.Corrected r) = NotValid
 bothSides run n side.NotValid side.NotValid = NotValid
 
--- Run number n is valid if it is not struck and both sides count over the background: both readings are levels, d at least 10.0.
-unfoldable pub validOf : Run → ℕ → ℕ → Validity
-validOf run background n =
-    cond (run .struck) NotValid
-    (bothSides run n (sideOf (readingFrom (run .«left_kind») (run .left)) background) (sideOf (readingFrom (run .«right_kind») (run .right)) background))
+-- Run number n is valid if it is not struck and both sides count, each over its background: both readings are levels, d at least 10.0.
+unfoldable pub validOf : Run → Backgrounds → ℕ → Validity
+validOf run b n = cond (run .struck) NotValid (bothSides run n (leftSide run b) (rightSide run b))
 
--- ---- step 4: the rest of a condition, which is a gear and a run kind over a background
+-- ---- step 4: the rest of a condition, which is a gear and a run kind over the backgrounds
 
 -- record n as a run of the condition's kind and gear: valid, or set aside
 unfoldable pub candidateOf : List ℕ → Condition → ℕ → Validity
-candidateOf s o n = cond (hasByte s 0 (o .kind) n && hasByte s 1 (o .gear) n) (validOf (runIn (recordAt s n)) (o .background .0) n) NotValid
+candidateOf s o n = cond (hasByte s 0 (o .kind) n && hasByte s 1 (o .gear) n) (validOf (runIn (recordAt s n)) (o .backgrounds) n) NotValid
 
 -- a valid run stands before the others; one that is not is set aside
 abbrev pub withValid : Validity → List ValidRun → List ValidRun

@@ -1,5 +1,6 @@
-// Valid runs: the background, the validity rule, and the first window of a condition in a sheet. No acceleration is known here.
+// Valid runs: the background of each side, the validity rule, and the first window of a condition in a sheet. No acceleration is known here.
 use level::Side;
+use record::Backgrounds;
 use record::Record;
 use record::Run;
 use units::Tenths;
@@ -11,11 +12,11 @@ ghost use Prim.Native.Nat.{_<_};
 ghost use lib.ListN.{take, drop};
 ghost use Rattle.record.specs.Records.{records, recordAt, runGood};
 ghost use Rattle.sheet.specs.Sheet.{RunsGood};
-ghost use Rattle.valid_runs.specs.ValidRuns.{backgroundOf, validOf, candidateOf, windowOf};
+ghost use Rattle.valid_runs.specs.ValidRuns.{backgroundOf, backgroundsOf, validOf, candidateOf, windowOf};
 
-// A gear and a run kind, with the background of their runs.
+// A gear and a run kind, with the backgrounds of their runs.
 pub struct Condition {
-    pub background: Tenths,
+    pub backgrounds: Backgrounds,
     // Record::ACCELERATION or Record::CONSTANT_SPEED
     pub kind: u8,
     pub gear: u8,
@@ -26,22 +27,32 @@ pub enum Validity {
     NotValid,
 }
 
-// The larger of the background before and after.
-pub fn background(before: Tenths, after: Tenths) -> Tenths
+// The background of one side: the larger of the two, before and after.
+fn background(before: Tenths, after: Tenths) -> Tenths
     ensures { λ r. ⌜ r .0 ≡ backgroundOf (before .0) (after .0) ⌝ }
 {
     if before.0 < after.0 { after } else { before }
 }
 
-// The validity rule of a run.
-pub fn valid(run: Run, background: Tenths, number: u16) -> Validity
-    ensures { λ r. ⌜ r ≡ validOf run (background .0) number ⌝ }
+// The backgrounds of both sides.
+pub fn backgrounds(before: Backgrounds, after: Backgrounds) -> Backgrounds
+    ensures { λ r. ⌜ r ≡ backgroundsOf before after ⌝ }
+{
+    Backgrounds {
+        left: background(before.left, after.left),
+        right: background(before.right, after.right),
+    }
+}
+
+// The validity rule of a run: each side against its own background.
+pub fn valid(run: Run, backgrounds: Backgrounds, number: u16) -> Validity
+    ensures { λ r. ⌜ r ≡ validOf run backgrounds number ⌝ }
 {
     if run.struck {
         return Validity::NotValid;
     }
-    let left = level::side_of(run.left_reading(), background);
-    let right = level::side_of(run.right_reading(), background);
+    let left = level::side_of(run.left_reading(), backgrounds.left);
+    let right = level::side_of(run.right_reading(), backgrounds.right);
     let Side::Corrected(l) = left else {
         return Validity::NotValid;
     };
@@ -65,7 +76,7 @@ fn candidate(sheet: &[u8], condition: Condition, number: u16) -> Validity
 {
     let r = Record::at(sheet, number as usize);
     if (r[0] == condition.kind) & (r[1] == condition.gear) {
-        valid(record::run_in(r), condition.background, number)
+        valid(record::run_in(r), condition.backgrounds, number)
     } else {
         Validity::NotValid
     }

@@ -1,7 +1,7 @@
 -- `decision::decide` meets its contract: rows 2 to 5 are the examination's. Assumes nothing.
 use mathlib.Core.Path.{sym, ap, _∙_}
 use borrow.Author.Needs.{needs}
-use Rattle.decision.specs.Decision.{decideBy, decisionOf}
+use Rattle.decision.specs.Decision.{decideBy, decisionOver, decisionOf}
 use Rattle.decision.proofs.decide.Statement.{statement}
 use Rattle.decision.proofs.decide.Tie as tie
 
@@ -21,8 +21,8 @@ returns : tie.Need-returns
 returns c = search needs
 
 returns-2 : tie.Need-returns-2
-unfolding decisionOf decideBy
-returns-2 c = sym (ap (decideBy _) (sym (c .before .before .before .examine .ensures) ∙ c .before .x .given .1))
+unfolding decisionOf decisionOver decideBy
+returns-2 c = sym (ap (decideBy _ _) (sym (c .before .before .before .examine .ensures) ∙ c .before .x .given .1))
 
 pub decide-spec : {M : Type 1} → statement M
 decide-spec =

@@ -10,6 +10,7 @@ use Rattle.units.proofs.Tests.{neither}
 use Rattle.refusal.specs.declared.Refusal.the-variants.{NoWindow}
 use Rattle.sheet.specs.Sheet.{anyAcceleration}
 use Rattle.sheet.proofs.Examinations.{length-range, mass-positive, runs-good}
+use Rattle.valid_runs.specs.ValidRuns.{backgroundsOf}
 use Rattle.reference.specs.Reference.{pmrOf, referenceAt}
 use Rattle.session.specs.declared.Track.{Track}
 use Rattle.session.specs.Session.{Session, sessionOf}
@@ -24,7 +25,7 @@ abbrev q : tie.Start → ℕ
 q s = pmrOf (s .args .v .power) (s .args .v .mass)
 
 abbrev session : tie.Start → Session
-session s = sessionOf (s .args .sheet .now) (trackOf (s .args .v) (s .args .z))
+session s = sessionOf (s .args .sheet .now) (trackOf (backgroundsOf (s .args .v .backgrounds) (s .args .z .backgrounds)) (s .args .v))
 
 is : (s : tie.Start) → decisionOf (s .args .sheet .now) ≡ decideWhole (session s) (q s) (s .args .v .limit)
 is s = decision-is (s .args .sheet .now) (s .args .v) (s .args .z) (s .pre)

@@ -21,14 +21,17 @@ blank-requires c κs = search needs
 word-within-requires : tie.Need-word-within-requires
 word-within-requires c κs = search needs
 
+word-within-requires-2 : tie.Need-word-within-requires-2
+word-within-requires-2 c κs = search needs
+
 blank-requires-2 : tie.Need-blank-requires-2
 blank-requires-2 c κs = search needs
 
 returns-2 : tie.Need-returns-2
 unfolding closingGood closingTests
 returns-2 c =
-    chained {a = eqb (byte (c .before .before .before .before .before .before .args .r .now) 0) 9} (eq-eqb _ _ (c .before .before .before .before .if1 .left)) refl
-    (also (c .before .before .blank .ensures) (also (c .before .word-within .ensures) (also (c .blank2 .ensures) done)))
+    chained {a = eqb (byte (c .before .before .before .before .before .before .before .args .r .now) 0) 9} (eq-eqb _ _ (c .before .before .before .before .before .if1 .left)) refl
+    (also (c .before .before .before .blank .ensures) (also (c .before .before .word-within .ensures) (also (c .before .word-within2 .ensures) (also (c .blank2 .ensures) done))))
 
 pub closing-good-spec : {M : Type 1} → statement M
 closing-good-spec =
@@ -38,5 +41,6 @@ closing-good-spec =
     shared-slice-read-result
     blank-requires
     word-within-requires
+    word-within-requires-2
     blank-requires-2
     returns-2)

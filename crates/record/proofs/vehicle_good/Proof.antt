@@ -45,11 +45,17 @@ word-within-requires-6 c κs = search needs
 blank-requires-2 : tie.Need-blank-requires-2
 blank-requires-2 c κs = search needs
 
+word-within-requires-7 : tie.Need-word-within-requires-7
+word-within-requires-7 c κs = search needs
+
+blank-requires-3 : tie.Need-blank-requires-3
+blank-requires-3 c κs = search needs
+
 returns-2 : tie.Need-returns-2
 unfolding vehicleGood vehicleTests
 returns-2 c =
-    chained {a = eqb (byte (c .before .before .before .before .before .before .before .before .before .before .before .before .before .args .r .now) 0) 1} (eq-eqb _ _ (c .before .before .before .before .before .before .before .before .before .before .before .if1 .left)) refl
-    (also (c .before .before .before .before .before .before .before .before .before .byte-within .ensures) (also (c .before .before .before .before .before .before .before .before .byte-within2 .ensures) (also (c .before .before .before .before .before .before .before .blank .ensures) (also (c .before .before .before .before .before .before .word-within .ensures) (also (c .before .before .before .before .before .word-within2 .ensures) (also (c .before .before .before .before .word-within3 .ensures) (also (c .before .before .before .word-within4 .ensures) (also (c .before .before .word-within5 .ensures) (also (c .before .word-within6 .ensures) (also (c .blank2 .ensures) done))))))))))
+    chained {a = eqb (byte (c .before .before .before .before .before .before .before .before .before .before .before .before .before .before .before .args .r .now) 0) 1} (eq-eqb _ _ (c .before .before .before .before .before .before .before .before .before .before .before .before .before .if1 .left)) refl
+    (also (c .before .before .before .before .before .before .before .before .before .before .before .byte-within .ensures) (also (c .before .before .before .before .before .before .before .before .before .before .byte-within2 .ensures) (also (c .before .before .before .before .before .before .before .before .before .blank .ensures) (also (c .before .before .before .before .before .before .before .before .word-within .ensures) (also (c .before .before .before .before .before .before .before .word-within2 .ensures) (also (c .before .before .before .before .before .before .word-within3 .ensures) (also (c .before .before .before .before .before .word-within4 .ensures) (also (c .before .before .before .before .word-within5 .ensures) (also (c .before .before .before .word-within6 .ensures) (also (c .before .before .blank2 .ensures) (also (c .before .word-within7 .ensures) (also (c .blank3 .ensures) done))))))))))))
 
 pub vehicle-good-spec : {M : Type 1} → statement M
 vehicle-good-spec =
@@ -67,4 +73,6 @@ vehicle-good-spec =
     word-within-requires-5
     word-within-requires-6
     blank-requires-2
+    word-within-requires-7
+    blank-requires-3
     returns-2)

@@ -22,15 +22,15 @@ number16-requires-3 c κs = search needs
 number16-requires-4 : tie.Need-number16-requires-4
 number16-requires-4 c κs = search needs
 
+backgrounds-in-requires : tie.Need-backgrounds-in-requires
+backgrounds-in-requires c κs = search needs
+
 number16-requires-5 : tie.Need-number16-requires-5
 number16-requires-5 c κs = search needs
 
-number16-requires-6 : tie.Need-number16-requires-6
-number16-requires-6 c κs = search needs
-
 returns : tie.Need-returns
 unfolding vehicleIn
-returns c = simp (c .number166 .ensures, c .before .number165 .ensures, c .before .before .number164 .ensures, c .before .before .before .number163 .ensures, c .before .before .before .before .number162 .ensures, c .before .before .before .before .before .number16 .ensures)
+returns c = simp (c .number165 .ensures, c .before .backgrounds-in .ensures, c .before .before .number164 .ensures, c .before .before .before .number163 .ensures, c .before .before .before .before .number162 .ensures, c .before .before .before .before .before .number16 .ensures)
 
 pub vehicle-in-spec : {M : Type 1} → statement M
 vehicle-in-spec =
@@ -42,6 +42,6 @@ vehicle-in-spec =
     number16-requires-2
     number16-requires-3
     number16-requires-4
+    backgrounds-in-requires
     number16-requires-5
-    number16-requires-6
     returns)

@@ -39,7 +39,7 @@ returns c =
     let a = e .before .before .args in
     let same = e .at .ensures in
     let test = rw same at (c .before .before .if1 .taken) in
-    simp test (c .valid .ensures ∙ ap (λ (x : Run). validOf x (a .condition .background .0) (a .number)) (c .before .run-in .ensures ∙ ap runIn same))
+    simp test (c .valid .ensures ∙ ap (λ (x : Run). validOf x (a .condition .backgrounds) (a .number)) (c .before .run-in .ensures ∙ ap runIn same))
 
 returns-2 : tie.Need-returns-2
 unfolding candidateOf

@@ -9,12 +9,12 @@ use Rattle.valid_runs.proofs.valid.Statement.{statement}
 use Rattle.valid_runs.proofs.valid.Tie as tie
 
 -- the run goes by the two answers that the code has
-sides : (c : tie.After-side-of2) → let a = c .before .before .before .before .before .args in validOf (a .run) (a .background .0) (a .number) ≡ bothSides (a .run) (a .number) (c .before .before .side-of .result) (c .side-of2 .result)
+sides : (c : tie.After-side-of2) → let a = c .before .before .before .before .before .args in validOf (a .run) (a .backgrounds) (a .number) ≡ bothSides (a .run) (a .number) (c .before .before .side-of .result) (c .side-of2 .result)
 sides c =
     let a = c .before .before .before .before .before .args in
-    by-sides (a .run) (a .background .0) (a .number) (c .before .before .before .before .if1 .left) _ _
-    (c .before .before .side-of .ensures ∙ ap (λ (x : Reading). sideOf x (a .background .0)) (c .before .before .before .left-reading .ensures))
-    (c .side-of2 .ensures ∙ ap (λ (x : Reading). sideOf x (a .background .0)) (c .before .right-reading .ensures))
+    by-sides (a .run) (a .backgrounds) (a .number) (c .before .before .before .before .if1 .left) _ _
+    (c .before .before .side-of .ensures ∙ ap (λ (x : Reading). sideOf x (a .backgrounds .left .0)) (c .before .before .before .left-reading .ensures))
+    (c .side-of2 .ensures ∙ ap (λ (x : Reading). sideOf x (a .backgrounds .right .0)) (c .before .right-reading .ensures))
 
 returns : tie.Need-returns
 returns c = sym (struck-out _ _ _ (c .if1 .taken))
@@ -38,7 +38,7 @@ enum-told : tie.Need-enum-told
 enum-told c = search needs
 
 returns-2 : tie.Need-returns-2
-returns-2 c = sym (sides (c .before .before) ∙ left-out _ 0 _ _ _ (c .enum-told .given .1))
+returns-2 c = sym (sides (c .before .before) ∙ left-out _ _ _ _ (c .enum-told .given .1))
 
 enum-known-right : tie.Need-enum-known-right
 enum-known-right c = search needs
@@ -47,7 +47,7 @@ enum-told-2 : tie.Need-enum-told-2
 enum-told-2 c = search needs
 
 returns-3 : tie.Need-returns-3
-returns-3 c = sym (sides (c .before .before .before .before .before) ∙ right-out _ 0 _ _ _ (c .enum-told2 .given .1))
+returns-3 c = sym (sides (c .before .before .before .before .before) ∙ right-out _ _ _ _ (c .enum-told2 .given .1))
 
 returns-4 : tie.Need-returns-4
 unfolding bothSides
