@@ -1,5 +1,5 @@
 -- Sheets that are good and sheets that are not: each end of each field's range and the number beyond it, each blank byte, readings,
--- sizes and misplaced records. The outcomes are those of document 01 with wish 8 of document 02; one test computes that the definition gives
+-- sizes and misplaced records. The outcomes are those of document 01 with wishes 1 and 8 of document 02; one test computes that the definition gives
 -- each. Assumes nothing.
 use mathlib.Core.Bool.{Bool}
 use mathlib.Core.List.{List, [], _∷_, _++_, map}
@@ -56,7 +56,7 @@ holds : Example → Bool
 holds (edit at bytes o) = eqb (outcome (examined (sets sheet at bytes))) o
 holds (other s o) = eqb (outcome (examined s)) o
 
--- each of the `count` bytes from `at` on that are zero in this sheet, set to 1; bytes 16 and 17 are zero because its limit is written
+-- each of the `count` bytes from `at` on, all of which must be zero, set to 1 (16 and 17 because this sheet's limit is written)
 blank : ℕ → ℕ → List Example
 blank at zero = []
 blank at (suc count) = edit at (1 ∷ []) (refusal 5 (at / 32)) ∷ blank (at + 1) count
@@ -110,7 +110,7 @@ fields =
     ∷ edit 14 (50 ∷ 0 ∷ []) (good)
     ∷ edit 14 (100 ∷ 0 ∷ []) (good)
     ∷ edit 14 (101 ∷ 0 ∷ []) (refusal 5 0)
-    -- a limit of 0, with any phase and class; 1 and 256 are not 0, and low byte first 72 is not 18,432
+    -- a limit of 0, with any bytes 16 and 17; 1 and 256 are not 0, and 0 and 72, low byte first, are 18,432 and not 72
     ∷ edit 14 (0 ∷ 0 ∷ 0 ∷ 0 ∷ []) good
     ∷ edit 14 (0 ∷ 0 ∷ 1 ∷ 0 ∷ []) good
     ∷ edit 14 (0 ∷ 0 ∷ 255 ∷ 255 ∷ []) good
