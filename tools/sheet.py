@@ -177,7 +177,7 @@ class Limit(Number):
 
 
 @dataclass
-class ClassByte(Choice):
+class LookUpByte(Choice):
     """A byte by which the limit is looked up. Its words are what the table of limits has; the layout allows any byte, but only
     zero if the limit is not looked up."""
 
@@ -281,8 +281,8 @@ VEHICLE_FIELDS = (
     ranged(VEHICLE_NUMBERS, "rated engine speed", 10, "per minute"),
     *backgrounds(VEHICLE_NUMBERS, "before", 12, 18),
     LIMIT,
-    ClassByte("phase", 16, words=((1, "1"), (2, "2"), (3, "3")), limit=LIMIT),
-    ClassByte("low car", 17, words=((0, "no"), (1, "yes")), limit=LIMIT),
+    LookUpByte("phase", 16, words=((1, "1"), (2, "2"), (3, "3")), limit=LIMIT),
+    LookUpByte("low car", 17, words=((0, "no"), (1, "yes")), limit=LIMIT),
 )
 START_SPEED = ranged(RUN_NUMBERS, "speed at the start line", 16, "km/h", decimals=1)
 END_SPEED = ranged(RUN_NUMBERS, "speed at BB'", 18, "km/h", decimals=1)
@@ -503,9 +503,9 @@ def left_over_of(cells):
 
 
 def field_bytes(cells, field):
-    """The bytes of a field. A level, a right background or a byte of the class alone may be blank."""
+    """The bytes of a field. A level, a right background, phase or low car alone may be blank."""
     part = read_cell(cells, field.column(), field.bytes_of)
-    if part is None and not isinstance(field, (Level, RightBackground, ClassByte)):
+    if part is None and not isinstance(field, (Level, RightBackground, LookUpByte)):
         raise Unreadable(f"column {field.column()!r} is blank")
     return part or bytes(field.size)
 

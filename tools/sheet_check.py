@@ -23,7 +23,7 @@ TOOL = os.path.join(os.path.dirname(os.path.abspath(__file__)), "sheet.py")
 LONGEST_RANDOM = 200  # bytes
 
 # A table as a crew may write it: columns in an order of their own, blank rows, a blank level of an absent reading, a blank right
-# background, which means the left's, and no column for the class, which a written limit does not ask for.
+# background, which means the left's, and no columns for phase and low car, which a written limit does not need.
 HEADER = ("kind,gear,left reading,left level [dB(A)],right reading,right level [dB(A)],struck,speed at the start line [km/h],"
           "speed at BB' [km/h],highest engine speed [per minute],category,start line,power [kW],mass in running order [kg],"
           "length [cm],rated engine speed [per minute],left background before [dB(A)],limit [dB(A)],left background after [dB(A)],"
@@ -62,7 +62,7 @@ def with_limit(sheet, limit, phase, low_car):
     return sheet[:14] + limit.to_bytes(2, "little") + bytes([phase, low_car]) + sheet[18:]
 
 
-# Tables of the same sheet with columns for the class, and of sheets whose limit is looked up, one of them without a class.
+# Tables of the same sheet with columns for phase and low car, and of sheets whose limit is looked up, one of them without these.
 CLASS_COLUMNS = f"{NO_SIDE},low car,phase"
 LOOKED_UP_CELLS = VEHICLE_CELLS.replace("N1", "M1").replace("72", "0")
 FROM_M1 = sheets.sheet(sheets.vehicle(1, 1, 865, 2049, 450, 5500, 403, 72), [], 380)
@@ -80,11 +80,11 @@ WITH_CLASS = (
 # Backgrounds at the ends of their range and of their bytes, beside these, and with the bytes of the highest swapped.
 ENDS = (0, 1, 255, 256, 999, 1000, 1001, 0xE803, 65535)
 
-# Limits likewise, with the bytes of the lowest and the highest swapped, and bytes of the class at the ends of what has a limit.
+# Limits likewise, with the bytes of the lowest and the highest swapped, and phase and low car at the ends of what has a limit.
 LIMITS = (0, 1, 49, 50, 72, 100, 101, 255, 256, 0x3200, 0x6400, 65535)
 PHASES, LOW_CARS = (0, 1, 2, 3, 4, 255), (0, 1, 2, 255)
 
-# What `show` must say of a right background, a limit and a class.
+# What `show` must say of a right background, a limit, phase and low car.
 SHOWN = (
     (FROM_HAND, "    right background before   39.1 dB(A)"),
     (FROM_HAND, "    right background after    0.0 dB(A), which means the left's: 38.0 dB(A)"),

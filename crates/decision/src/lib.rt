@@ -181,7 +181,7 @@ fn decide_whole(sheet: &[u8], track: Track, pmr: u32, limit: u16) -> Decision
     decide_table(sheet, track, reference, limit, table)
 }
 
-// Rows 11 and 12, then those from 6 to 10 with the limit found, for a sheet that was found whole.
+// Rows 11 and 12, then rows 6 to 10 with the limit found, for a whole sheet.
 fn decide_examined(sheet: &[u8], v: Vehicle, z: Closing) -> Decision
     requires { ⌜ examined (now sheet) ≡ Whole v z ⌝ }
     ensures { λ r. ⌜ r ≡ decisionOf (now (sheet .entry)) ⌝ }

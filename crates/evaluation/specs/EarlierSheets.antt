@@ -1,7 +1,8 @@
 -- Earlier sheets keep their results (document 02, wishes 1 and 8). Without wish 8 there is one background for both sides, and the bytes of the right
--- side's have no name and so are zero; without wish 1 the limit is always written, and bytes 16 and 17 are zero. An evaluation without one of
--- them, or without both, is the same definition with other layouts, backgrounds or another limit. A byte string keeps its answer and its
--- buffer unless that evaluation refused it with 5: for one of these bytes it may now be accepted, or be refused for something else.
+-- side's have no name and so are zero; without wish 1 the limit is always written, and bytes 16 and 17 are zero. An evaluation without one of them,
+-- or without both, is the same definition with other layouts, backgrounds or another limit. A byte string keeps its answer and its buffer unless
+-- that evaluation refuses it with 5; if it does so for one of these bytes, the sheet may be accepted with the wishes, or be refused for something
+-- else.
 use mathlib.Core.Path.{_≡_}
 use mathlib.Core.Bool.{Bool, true, false}
 use mathlib.Core.List.{List}
@@ -21,9 +22,9 @@ use Rattle.decision.specs.declared.Decision.the-variants.{Refused}
 use Rattle.decision.specs.Decision.{decisionOver, sheetVehicle, sheetBackgrounds, sheetLimit, decisionOf}
 use Rattle.evaluation.specs.Answer.{answerFor, answerOf, bufferFor, bufferOf}
 
--- ---- what was evaluated otherwise
+-- ---- what earlier evaluations have otherwise
 
--- the vehicle and the closing record, by which records need no written limit and by what is asked of the right side's background
+-- the layouts of the vehicle and the closing record, given which records need no written limit and what is asked of the right side's background
 abbrev pub earlierLayouts : (List ℕ → Bool) → (List ℕ → ℕ → Bool) → Layouts
 earlierLayouts unwritten asked = record { vehicle = λ r. allOf (vehicleTests unwritten asked r); closing = λ r. allOf (closingTests asked r) }
 

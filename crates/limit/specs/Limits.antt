@@ -58,6 +58,6 @@ limitOf v q =
 
 -- ---- what holds of limits
 
--- a higher PMR never has a lower limit for a record with the same limit field, phase and byte 17
+-- of one vehicle record, a higher PMR never has a lower limit
 abbrev pub LimitsRise : Type 0
 LimitsRise = (v : Vehicle) (q q′ n n′ : ℕ) → q ≤ q′ → limitOf v q ≡ Found n → limitOf v q′ ≡ Found n′ → n ≤ n′

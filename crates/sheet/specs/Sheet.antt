@@ -51,7 +51,7 @@ examinedBy y s =
     (cond (ltb (lowestBrokenBy y s) (records s)) (Refused (BrokenRecord (lowestBrokenBy y s)))
     (Whole (vehicleIn (recordAt s 0)) (closingIn (recordAt s (lastOf s)))))))
 
--- by the layouts of these records
+-- by the layouts of `record/specs/Records`
 abbrev pub layouts : Layouts
 layouts = record { vehicle = vehicleGood; closing = closingGood }
 
