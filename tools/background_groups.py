@@ -5,7 +5,7 @@ from typing import NamedTuple
 
 from make import (Gear, car_of, changed, constant_runs, float_at_edge, gear_runs, random_session, sheet_of, with_number,
                   with_right_backgrounds)
-from reckon import ACCELERATION_RUN, CLOSING_UNNAMED, CONSTANT_RUN, VEHICLE_UNNAMED, records_of
+from reckon import ACCELERATION_RUN, CLOSING_UNNAMED, CONSTANT_RUN, LOOK_UP_BYTES, VEHICLE_UNNAMED, records_of
 from sheet_groups import session_with
 from sheets import run, sheet, speeds_for, tenths, vehicle, worked_runs
 from window_groups import CORRECTION_STEPS, RUN_KINDS, corrected_difference, farthest, four_levels, one_of_four
@@ -178,10 +178,10 @@ def right_and_other_causes(random):
 
 
 def unnamed_beside_the_right(random):
-    """Refusal 5 for each unnamed byte of the two records that have the right's background, with one there."""
+    """Refusal 5 for each unnamed byte of the two records that have the right's background, with one there and a written limit."""
     whole = sheet_with(field_runs(), Fields(400, 400, 420, 380))
-    for record, places in ((0, VEHICLE_UNNAMED), (9, CLOSING_UNNAMED)):
-        for at, value in product(places, (1, 128, 255)):
+    for record, places in ((0, VEHICLE_UNNAMED + LOOK_UP_BYTES), (9, CLOSING_UNNAMED)):
+        for at, value in product(sorted(places), (1, 128, 255)):
             yield changed(whole, 32 * record + at, value)
 
 

@@ -2,7 +2,8 @@
 
 import reckon
 from misread import PAPER, by_edit, edited, for_kind, reading, simple
-from reckon import ACCELERATION_RUN, CLOSING_NUMBERS, CLOSING_UNNAMED, CONSTANT_RUN, VEHICLE_NUMBERS, VEHICLE_UNNAMED, Sides, number
+from reckon import (ACCELERATION_RUN, CLOSING_NUMBERS, CLOSING_UNNAMED, CONSTANT_RUN, LOOK_UP_BYTES, VEHICLE_NUMBERS, VEHICLE_UNNAMED,
+                    Sides, number)
 
 # The larger of before and after, on each side and on both.
 
@@ -186,6 +187,7 @@ def with_places(vehicle_at, closing_at, vehicle_named, closing_named):
     return {**text, "VEHICLE_NUMBERS": (*VEHICLE_NUMBERS[:-1], (vehicle_at, 0, 1000)),
             "CLOSING_NUMBERS": (*CLOSING_NUMBERS[:-1], (closing_at, 0, 1000)),
             "VEHICLE_UNNAMED": unnamed(VEHICLE_UNNAMED + (18, 19), vehicle_named),
+            "LOOK_UP_BYTES": unnamed(LOOK_UP_BYTES, vehicle_named),
             "CLOSING_UNNAMED": unnamed(CLOSING_UNNAMED + (6, 7), closing_named)}
 
 
@@ -204,7 +206,9 @@ PLACES = [
     *((f"byte {at} of a vehicle record is not named", {"VEHICLE_UNNAMED": VEHICLE_UNNAMED + (at,)}) for at in (18, 19)),
     *((f"byte {at} of a closing record is not named", {"CLOSING_UNNAMED": CLOSING_UNNAMED + (at,)}) for at in (6, 7)),
     *((f"bytes {words} of a vehicle record may hold anything", {"VEHICLE_UNNAMED": unnamed(VEHICLE_UNNAMED, named)})
-      for words, named in (("16 and 17", (16, 17)), ("20 and 21", (20, 21)), ("20 to 31", range(20, 32)), ("16 to 31", range(16, 32)))),
+      for words, named in (("20 and 21", (20, 21)), ("20 to 31", range(20, 32)))),
+    ("bytes 16 to 31 of a vehicle record may hold anything",
+     {"VEHICLE_UNNAMED": unnamed(VEHICLE_UNNAMED, range(16, 32)), "LOOK_UP_BYTES": ()}),
     *((f"bytes {words} of a closing record may hold anything", {"CLOSING_UNNAMED": unnamed(CLOSING_UNNAMED, named)})
       for words, named in (("8 and 9", (8, 9)), ("8 to 31", range(8, 32)), ("18 and 19", (18, 19)))),
 ]

@@ -21,7 +21,7 @@ from damage import damaged_sheets, raised
 from examples import example_sheets
 from groups import GROUPS
 from make import Random, beside_starts, of_groups, random_session, with_right_backgrounds
-from reckon import Refused, chosen_records, excess, is_close, line, reckon, records_of, rise
+from reckon import Refused, chosen_records, class_limits, excess, is_close, line, reckon, records_of, rise
 from window_groups import rising_at_steps
 
 EXAMPLES, SHEETS, LINES = os.path.join("data", "examples.bin"), os.path.join("data", "sheets.bin"), "stdout"
@@ -135,11 +135,21 @@ FEATURES = {
     "kp 0.00 from PMR 25.0": lambda numbers, _: len(numbers) == 13 and numbers[10] >= 250 and numbers[4] == 0,
     "fails its limit": lambda numbers, _: len(numbers) == 13 and numbers[12] == 0,
     "1,024 records": lambda _, sheet: len(sheet) == 32768,
+    "limit looked up": lambda numbers, sheet: len(numbers) == 13 and not any(sheet[14:16]),
     "own background on the right": lambda numbers, sheet: len(numbers) == 13 and any(sheet[18:20] + sheet[-26:-24]),
     "16 gears": lambda _, sheet: len({record[1] for record in records_of(sheet)[1:-1] if record[0] == 2}) == 16,
 }
 
-OUTCOMES = [f"rule {n}" for n in range(1, 6)] + [f"refusal {n}" for n in range(2, 11)]
+OUTCOMES = [f"rule {n}" for n in range(1, 6)] + [f"refusal {n}" for n in range(2, 13)]
+ENTRIES_OF_LIMITS = 12  # of the table of document 02, wish 1
+
+
+def entry_and_verdict(text, sheet):
+    """The class, by its limits, and the phase that a limit is looked up by, with the pass field; None for any other sheet."""
+    if not text.startswith("OK") or any(sheet[14:16]):
+        return None
+    PMR, _, passes = (int(word) for word in text.split()[-3:])
+    return class_limits(PMR, sheet[17] == 1), sheet[16], passes
 
 
 def spread():
@@ -154,8 +164,12 @@ def spread():
     PMRs = {int(text.split()[11]) for _, text, _ in answers if text.startswith("OK")}
     met = [q in PMRs for q in beside_starts()]
     print(f"  {met.count(True)} of the {len(met)} PMRs at and before the starts of a_urban and a_ref")
+    verdicts = Counter(entry_and_verdict(text, sheet) for _, text, sheet in answers)
+    del verdicts[None]
+    print(f"  each of the {ENTRIES_OF_LIMITS} limits by class as a pass and as a fail, {min(verdicts.values())} times or more")
     return (len(answers) >= LEAST_SHEETS and all(totals[result] >= LEAST_OF_EACH for result in OUTCOMES)
-            and all(totals[name] > 0 for name in FEATURES) and all(met))
+            and all(totals[name] > 0 for name in FEATURES) and all(met)
+            and len(verdicts) == 2 * ENTRIES_OF_LIMITS and min(verdicts.values()) >= LEAST_OF_EACH)
 
 
 def all_sheets():

@@ -1,7 +1,7 @@
 """Damaged variants of sheets, and changes of levels for pairs of sheets."""
 
 import sheets
-from make import BACKGROUND_PLACES, bits_of, changed, float_step, random_session, spoiled, with_right_backgrounds
+from make import BACKGROUND_PLACES, bits_of, changed, float_step, random_session, spoiled, with_look_up, with_right_backgrounds
 from reckon import ABSENT, ACCELERATION_RUN, CONSTANT_RUN, records_of
 
 LONGEST_BASE = 3000  # bytes: longer sheets are seldom taken as a base
@@ -117,7 +117,7 @@ def other_background(random, whole):
 
 ROUGH = (any_byte, one_bit, cut_short)
 GENTLE = (swapped, repeated, removed, spoiled_run, other_gear, other_speeds, other_engine_speed, other_levels,
-          other_levels, other_speeds, other_vehicle_number, other_background, with_right_backgrounds)
+          other_levels, other_speeds, other_vehicle_number, other_background, with_right_backgrounds, with_look_up)
 
 
 def damaged_sheets(random, bases, count):
@@ -129,7 +129,9 @@ def damaged_sheets(random, bases, count):
             yield bytes(random.below(256) for _ in range(random.below(200)))
         elif way < 20:
             whole = random_session(random)
-            yield with_right_backgrounds(random, whole) if random.chance(50) else whole
+            for change in (with_right_backgrounds, with_look_up):
+                whole = change(random, whole) if random.chance(50) else whole
+            yield whole
         elif way < 35:
             yield random.pick(ROUGH)(random, random.pick(short))
         else:

@@ -21,7 +21,8 @@ COUNTERPARTS = (("max", "min"), ("any", "all"), ("left", "right"), ("first", "la
                 ("power", "mass"), ("level_i", "level_j"), ("a_i", "a_j"), ("i", "j"), ("W", "C"), ("R", "a_urban"),
                 ("a_ref", "a_urban"), ("a_test", "a_urban"), ("a", "next_a"), ("LEVEL", "OVERLOAD"), ("LEVEL", "ABSENT"),
                 ("ACCELERATION_RUN", "CONSTANT_RUN"), ("LOWEST_LEVEL", "HIGHEST_LEVEL"),
-                ("a_urban_of", "a_ref_of"), ("sorted", "list"), ("VEHICLE", "CLOSING"),
+                ("a_urban_of", "a_ref_of"), ("sorted", "list"), ("VEHICLE", "CLOSING"), ("M1", "N1"), ("phase", "low_car"),
+                ("LIMITS_ABOVE", "LOW_CAR_LIMITS"), ("LOW_CARS_ABOVE", "HIGHEST_PMR"),
                 ("LOWEST_PMR", "CONSTANT_SPEED_PMR"), ("HIGHEST_PMR", "CONSTANT_SPEED_PMR"))
 
 
@@ -218,7 +219,8 @@ EQUIVALENT = {
         "VEHICLE_NUMBERS: (12, 0, 1000) -> (12, -1, 1000)", "VEHICLE_NUMBERS: (18, 0, 1000) -> (18, -1, 1000)",
         "RUN_NUMBERS: (20, 0, 20000) -> (20, -1, 20000)", "CLOSING_NUMBERS: (4, 0, 1000) -> (4, -1, 1000)",
         "CLOSING_NUMBERS: (6, 0, 1000) -> (6, -1, 1000)", "read_background: right == 0 -> right <= 0",
-        "are_zero: record[at] == 0 -> record[at] <= 0",
+        "are_zero: record[at] == 0 -> record[at] <= 0", "limit_layout: number(record, 14) == 0 -> number(record, 14) <= 0",
+        "refuse_look_up: vehicle.limit != 0 -> vehicle.limit > 0", "limit_found: vehicle.limit == 0 -> vehicle.limit <= 0",
         *of("reading_layout", "kind == ABSENT -> kind <= ABSENT", "four == bytes(4) -> four <= bytes(4)"),
         *of("refuse_form", "len(sheet) % RECORD_BYTES != 0 -> len(sheet) % RECORD_BYTES > 0", "at == 0 -> at <= 0"),
         "read_reading: kind == ABSENT -> kind <= ABSENT"],
@@ -238,8 +240,9 @@ EQUIVALENT = {
             "record[0] == CLOSING -> record[0] >= CLOSING")],
     "the layout leaves no other value": [
         "run_layout: record[0] == ACCELERATION_RUN -> record[0] <= ACCELERATION_RUN", "read_vehicle: first[2] == 1 -> first[2] >= 1",
-        "read_run: record[2] == 1 -> record[2] >= 1",
+        "read_run: record[2] == 1 -> record[2] >= 1", "refuse_look_up: vehicle.category == N1 -> vehicle.category >= N1",
         "acceleration_windows: run.kind == ACCELERATION_RUN -> run.kind <= ACCELERATION_RUN"],
+    "refusal 12 leaves no other value": ["limit_found: vehicle.low_car == 1 -> vehicle.low_car >= 1"],
     "no record comes after the last, and no gear": ["refuse_form: at == last -> at >= last",
                                                     "choose_gears: at + 1 == len(gears) -> at + 1 >= len(gears)"],
     "validity asks the kind before the level": ["read_reading: None if kind == ABSENT else float_value(four) -> float_value(four)"],

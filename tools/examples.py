@@ -1,5 +1,5 @@
 #!/usr/bin/env python3
-"""Document 01's driven examples, those of document 02's wishes 2 and 8, and each line of "Where the spreadsheet tempts".
+"""Document 01's driven examples, those of document 02's wishes 1, 2 and 8, and each line of "Where the spreadsheet tempts".
 
     python3 tools/examples.py                prints each example; fails if the reckoner's answer is not the paper's
     python3 tools/examples.py --write DIR    writes stdout of the test program `driven`
@@ -14,8 +14,8 @@ import sys
 from fractions import Fraction
 
 import reckon
-from reckon import ACCELERATION_RUN, CONSTANT_RUN, a_ref_of, a_urban_of, corrected, line, rounded
-from sheets import decibels, run, sheet, speeds_for, tenths, vehicle, worked_sheet
+from reckon import ACCELERATION_RUN, CONSTANT_RUN, M1, N1, a_ref_of, a_urban_of, corrected, line, rounded
+from sheets import decibels, run, sheet, speeds_for, tenths, vehicle, worked_runs, worked_sheet
 
 STAR = "★ "
 
@@ -73,6 +73,11 @@ def sides_sheet(right_before=0, right_after=0, left_after=400):
     runs = [run(ACCELERATION_RUN, 3, tenths(700), tenths(720), 442, 545)] * 4
     runs += [run(CONSTANT_RUN, 3, tenths(650), tenths(660))] * 4
     return sheet(vehicle(right_background=right_before), runs, left_after, right_after)
+
+
+def worked_with(limit=0, runs=None, **fields):
+    """Document 01's whole sheet with a limit that is looked up, or another one, and other fields of the vehicle."""
+    return sheet(vehicle(limit=limit, **fields), worked_runs() if runs is None else runs)
 
 
 # Each example: what the paper says, in words; the paper's answer; the reckoner's answer.
@@ -170,7 +175,55 @@ def sides():
         yield f"{words} (document 02)", paper, line(whole)
 
 
-EXAMPLES = (roundings, corrections, windows, references, accelerations, gear_rules, whole_sheets, sides)
+# Power, mass, PMR in tenths, byte 17, and the limits in the phases 1 to 3. The PMR of 96.5 and 804 is 120.02 before its rounding.
+LIMITS = (
+    (1200, 1000, 1200, 0, (72, 70, 68)), (965, 804, 1200, 0, (72, 70, 68)), (1201, 1000, 1201, 0, (73, 71, 69)),
+    (1600, 1000, 1600, 0, (73, 71, 69)), (1601, 1000, 1601, 0, (75, 73, 71)),
+    (2000, 1000, 2000, 1, (75, 73, 71)), (2001, 1000, 2001, 1, (75, 74, 72)), (2001, 1000, 2001, 0, (75, 73, 71)),
+)
+# a_urban and a_ref at these PMRs: 121.99 and 189.59, 129.86 and 209.46, 135.96 and 224.86, and up to 0.06 more a tenth above.
+REFERENCES = {1200: "122 190", 1201: "122 190", 1600: "130 209", 1601: "130 209", 2000: "136 225", 2001: "136 225"}
+
+
+def limits_by_class():
+    """Wish 1's table: in words, the paper's line, and a sheet at each limit and at one above it. a' is 1.00, so kp is 0."""
+    for power, mass, q, low_car, limits in LIMITS:
+        for phase, limit in enumerate(limits, start=1):
+            for L_urban, passes, verdict in ((limit, 1, "passes"), (limit + 1, 0, "fails")):
+                yield (f"P {power // 10}.{power % 10}, m {mass}, byte 17 {low_car}, phase {phase}: {L_urban} {verdict}",
+                       f"OK 1 3 0 100 0 {L_urban}0 {L_urban}0 {L_urban} {REFERENCES[q]} {q} 100 {passes}",
+                       gears_sheet((3, 100, 10 * L_urban, 10 * L_urban), power=power, mass=mass, limit=0, phase=phase, low_car=low_car))
+
+
+def look_ups():
+    """Wish 1's whole sheets and refusals: in words, the paper's line, and the sheet."""
+    worked = "OK 3 3 4 78 29 719 658 70 106 149 667 149"
+    # PMR 66.7 and L_urban 70: the limits are 72, 70, 68
+    for phase, passes in ((1, 1), (2, 1), (3, 0)):
+        yield f"whole sheet, limit 0, phase {phase}", f"{worked} {passes}", worked_with(phase=phase)
+    yield "N1, limit 0, phase 9, byte 17 7: refusal 11", "REFUSED 11 0", worked_with(category=N1, phase=9, low_car=7)
+    yield "N1, limit 0, PMR 4.9: refusal 11", "REFUSED 11 0", worked_with(category=N1, phase=1, power=49, mass=1000)
+    yield "N1, limit 72", f"{worked} 1", worked_with(limit=72, category=N1)
+    for phase, low_car in ((0, 0), (4, 0), (1, 2)):
+        yield f"limit 0, phase {phase}, byte 17 {low_car}: refusal 12", "REFUSED 12 0", worked_with(phase=phase, low_car=low_car)
+    yield "limit 0, phase 0, PMR 4.9: refusal 12", "REFUSED 12 0", worked_with(power=49, mass=1000)
+    yield "limit 0, phase 1, PMR 4.9: refusal 6", "REFUSED 6 0", worked_with(phase=1, power=49, mass=1000)
+    runs = worked_runs()
+    broken = runs[:6] + [runs[6][:31] + b"\x01"] + runs[7:]
+    for category, phase in ((M1, 1), (M1, 0), (N1, 1)):
+        yield (f"limit 0, category {category}, phase {phase}, record 7 broken: refusal 5", "REFUSED 5 7",
+               worked_with(category=category, phase=phase, runs=broken))
+    for limit, phase, low_car in ((72, 1, 0), (72, 0, 1), (49, 0, 0), (101, 0, 0), (256, 0, 0), (256, 1, 0)):
+        yield (f"limit {limit}, phase {phase}, byte 17 {low_car}: refusal 5", "REFUSED 5 0",
+               worked_with(limit=limit, phase=phase, low_car=low_car))
+
+
+def limits():
+    for words, paper, whole in (*limits_by_class(), *look_ups()):
+        yield f"{words} (document 02)", paper, line(whole)
+
+
+EXAMPLES = (roundings, corrections, windows, references, accelerations, gear_rules, whole_sheets, sides, limits)
 
 
 # Each temptation: in words; the paper's answer; the reckoner's; and what the spreadsheet would say.
@@ -278,7 +331,7 @@ def sheet_answers():
     yield side_sheet((700, 720, 720, 720), (700, 720, 720, 720)), "OK 1 3"
     yield side_sheet((700, 721, 721, 721), (721, 700, 700, 700)), "REFUSED 7 3"
     yield level_sheet("70.0", "70.0", "75.0", "70.0", "70.0"), "REFUSED 7 3"
-    for _, paper, whole in backgrounds():
+    for _, paper, whole in (*backgrounds(), *limits_by_class(), *look_ups()):
         yield whole, paper
 
 

@@ -339,8 +339,8 @@ def exact_levels_for_kp():
 
 def exact_pass():
     """The limit asked of L_urban before its rounding."""
-    return edited("reckon", "is_pass(L_urban, vehicle)",
-                  "(Fraction(W) if PMR < 250 else C if W < C else W - Fraction(kp, 100) * (W - C)) <= 10 * vehicle.limit")
+    return edited("reckon", "is_pass(L_urban, limit_found(vehicle, PMR))",
+                  "(Fraction(W) if PMR < 250 else C if W < C else W - Fraction(kp, 100) * (W - C)) <= 10 * limit_found(vehicle, PMR)")
 
 
 def weighed_from_exact_means(windows, k):
@@ -488,11 +488,12 @@ FACTORS = [
         ("L_urban is rounded up", "L_urban_of", "rounded(level / 10)", "-int(-level // 10)"),
         ("1 dB off L_urban", "L_urban_of", "rounded(level / 10)", "rounded(level / 10) - 1"),
         ("L_urban is 70", "L_urban_of", "return rounded(level / 10)", "return 70"),
-        ("a pass is below the limit", "is_pass", "L_urban <= vehicle.limit", "L_urban < vehicle.limit"),
-        ("a pass up to 1 dB above the limit", "is_pass", "L_urban <= vehicle.limit", "L_urban <= vehicle.limit + 1"),
-        ("every sheet passes", "is_pass", "L_urban <= vehicle.limit", "True"),
-        ("the limit is asked of W", "reckon", "is_pass(L_urban, vehicle)", "is_pass(rounded(Fraction(W, 10)), vehicle)"),
-        ("the limit is asked of the larger of W and L_urban", "reckon", "is_pass(L_urban, vehicle)", "W <= 10 * vehicle.limit"),
+        ("a pass is below the limit", "is_pass", "L_urban <= limit", "L_urban < limit"),
+        ("a pass up to 1 dB above the limit", "is_pass", "L_urban <= limit", "L_urban <= limit + 1"),
+        ("every sheet passes", "is_pass", "L_urban <= limit", "True"),
+        ("the limit is asked of W", "reckon", "is_pass(L_urban, ", "is_pass(rounded(Fraction(W, 10)), "),
+        ("the limit is asked of the larger of W and L_urban", "reckon", "is_pass(L_urban, limit_found(vehicle, PMR))",
+         "W <= 10 * limit_found(vehicle, PMR)"),
     ),
 ]
 

@@ -2,6 +2,7 @@
 
 import background_groups as of_backgrounds
 import gear_groups as of_gears
+import limit_groups as of_limits
 import sheet_groups as of_sheets
 import sheets
 import window_groups as of_windows
@@ -105,5 +106,12 @@ GROUPS = (
     of_backgrounds.unnamed_beside_the_right, of_backgrounds.worked_sheet_on_the_right,
     of_backgrounds.only_the_right_differs, of_backgrounds.mirrored_pairs, of_backgrounds.two_sided_sessions,
     of_backgrounds.window_by_side, of_backgrounds.place_by_side, of_backgrounds.constant_speed_by_side,
-    of_backgrounds.rising_by_side, of_backgrounds.rising_on_both_sides,
+    of_backgrounds.rising_by_side, of_backgrounds.rising_on_both_sides, of_limits.each_level_by_class,
+    of_limits.classes_between_edges, of_limits.any_PMR_above_200, of_limits.far_from_the_limit,
+    of_limits.rounded_at_an_edge, of_limits.cars_near_an_edge, of_limits.written_as_found,
+    of_limits.written_beside_the_table, of_limits.looked_up_for_N1, of_limits.phases_and_classes,
+    of_limits.phase_bytes, of_limits.class_bytes, of_limits.limit_and_other_causes, of_limits.limit_numbers,
+    of_limits.limits_below_50, of_limits.written_with_a_look_up, of_limits.look_up_bits,
+    of_limits.look_up_and_broken_records, of_limits.worked_sheet_by_phase, of_limits.rules_by_phase,
+    of_limits.sessions_by_class,
 )

@@ -4,7 +4,7 @@ from fractions import Fraction
 from typing import NamedTuple, Optional
 
 import sheets
-from reckon import (ABSENT, ACCELERATION_RUN, CONSTANT_RUN, HIGHEST_LEVEL, LEVEL, LOWEST_LEVEL, OVERLOAD, a_ref_of,
+from reckon import (ABSENT, ACCELERATION_RUN, CONSTANT_RUN, HIGHEST_LEVEL, LEVEL, LOWEST_LEVEL, M1, N1, OVERLOAD, a_ref_of,
                     a_urban_of, float_value, number, records_of, rounded)
 
 MASK = 2 ** 64 - 1
@@ -323,3 +323,16 @@ def with_right_backgrounds(random, whole):
         near = number(records[record], left_at) + random.between(-20, 40)
         sheets.put(records[record], right_at, random.pick((0, 1, min(max(near, 0), 1000), random.between(380, 620))))
     return b"".join(records)
+
+
+def with_limit(whole, limit, phase=0, low_car=0):
+    """A sheet with its limit replaced, and what it is looked up by."""
+    return with_bytes(whole, 0, 14, limit.to_bytes(2, "little") + bytes([phase, low_car]))
+
+
+def with_look_up(random, whole):
+    """A sheet whose limit is looked up, mostly for M1 and by a phase and a class that there are."""
+    category = N1 if random.chance(10) else M1
+    phase = random.below(256) if random.chance(10) else random.between(1, 3)
+    low_car = random.below(256) if random.chance(10) else random.below(2)
+    return with_limit(changed(whole, 1, category), 0, phase, low_car)

@@ -20,6 +20,7 @@ from itertools import zip_longest
 import background_readings
 import edits
 import gear_readings
+import limit_readings
 import reckon
 import sheet_readings
 import window_readings
@@ -30,7 +31,7 @@ LONG = 4000  # bytes
 SECONDS = 60  # for a reading that does not come to an end
 
 EDITS = {words for words, _ in edits.READINGS}
-SUBJECTS = (sheet_readings, background_readings, window_readings, gear_readings, edits)
+SUBJECTS = (sheet_readings, background_readings, limit_readings, window_readings, gear_readings, edits)
 READINGS = [one for subject in SUBJECTS for one in subject.READINGS]
 REASONS = {words: reason for subject in SUBJECTS for reason, names in subject.EQUIVALENT.items() for words in names}
 TRIED = window_readings.TRIED + gear_readings.TRIED  # what some of the reasons rest on

@@ -16,13 +16,15 @@ MOST_SHEET_BYTES = 32768
 RESULT_BYTES = 32
 VEHICLE, ACCELERATION_RUN, CONSTANT_RUN, CLOSING = 1, 2, 3, 9
 ABSENT, LEVEL, OVERLOAD = 0, 1, 2
+M1, N1 = 1, 2
 
 # The sheet: 16-bit fields as (place in the record, lowest, highest), and the unnamed bytes.
-VEHICLE_NUMBERS = ((4, 10, 20000), (6, 300, 5000), (8, 100, 2000), (10, 500, 20000), (12, 0, 1000), (14, 50, 100),
-                   (18, 0, 1000))
+VEHICLE_NUMBERS = ((4, 10, 20000), (6, 300, 5000), (8, 100, 2000), (10, 500, 20000), (12, 0, 1000), (18, 0, 1000))
+WRITTEN_LIMIT = (14, 50, 100)  # or 0, for a limit that is looked up (document 02, wish 1)
+LOOK_UP_BYTES = (16, 17)  # the phase and the class of low cars; unnamed beside a written limit
 RUN_NUMBERS = ((16, 10, 1500), (18, 10, 1500), (20, 0, 20000))
 CLOSING_NUMBERS = ((4, 0, 1000), (6, 0, 1000))
-VEHICLE_UNNAMED = (3, 16, 17, *range(20, 32))
+VEHICLE_UNNAMED = (3, *range(20, 32))
 RUN_UNNAMED = (*range(5, 8), *range(22, 32))
 CLOSING_UNNAMED = (1, *range(8, 32))
 
@@ -32,6 +34,11 @@ LOWEST_DIFFERENCE = 100  # tenths (step 3)
 WIDEST_SPAN = 20  # tenths (step 4)
 CEILING = 300  # 3.00 m/s² in hundredths (gear rules 2 to 4)
 LOWEST_PMR, HIGHEST_PMR, CONSTANT_SPEED_PMR = 50, 6000, 250  # tenths: 5.0, 600.0, 25.0
+
+# Limits in dB(A) for phases 1 to 3 (document 02, wish 1): up to a PMR in tenths, above all of these, and for low cars.
+LIMITS_UP_TO = ((1200, (72, 70, 68)), (1600, (73, 71, 69)))
+LIMITS_ABOVE = (75, 73, 71)
+LOW_CARS_ABOVE, LOW_CAR_LIMITS = 2000, (75, 74, 72)
 
 
 class Refused(Exception):
@@ -48,13 +55,16 @@ class Sides(NamedTuple):
 
 
 class Vehicle(NamedTuple):
+    category: int
     from_pp: bool
     power: int
     mass: int
     length: int
     rated_speed: int
     background: Sides
-    limit: int
+    limit: int  # as written; 0 if it is looked up, by the two below
+    phase: int
+    low_car: int
 
 
 class Reading(NamedTuple):
@@ -154,9 +164,14 @@ def are_zero(record, places):
     return all(record[at] == 0 for at in places)
 
 
+def limit_layout(record):
+    """A limit of 0 beside any phase and class, or a written one beside zeros (document 02, wish 1)."""
+    return number(record, 14) == 0 or in_ranges(record, (WRITTEN_LIMIT,)) and are_zero(record, LOOK_UP_BYTES)
+
+
 def vehicle_layout(record):
-    return (record[0] == VEHICLE and record[1] in (1, 2) and record[2] in (0, 1)
-            and in_ranges(record, VEHICLE_NUMBERS) and are_zero(record, VEHICLE_UNNAMED))
+    return (record[0] == VEHICLE and record[1] in (M1, N1) and record[2] in (0, 1)
+            and in_ranges(record, VEHICLE_NUMBERS) and limit_layout(record) and are_zero(record, VEHICLE_UNNAMED))
 
 
 def reading_layout(kind, four):
@@ -203,10 +218,20 @@ def read_background(record, left_at, right_at):
 def read_vehicle(first, last):
     """The vehicle, with the larger background of each side, before or after (step 2; document 02, wish 8)."""
     before, after = read_background(first, 12, 18), read_background(last, 4, 6)
-    return Vehicle(from_pp=first[2] == 1, power=number(first, 4), mass=number(first, 6), length=number(first, 8),
-                   rated_speed=number(first, 10),
+    return Vehicle(category=first[1], from_pp=first[2] == 1, power=number(first, 4), mass=number(first, 6),
+                   length=number(first, 8), rated_speed=number(first, 10),
                    background=Sides(max(before.left, after.left), max(before.right, after.right)),
-                   limit=number(first, 14))
+                   limit=number(first, 14), phase=first[16], low_car=first[17])
+
+
+def refuse_look_up(vehicle):
+    """Refusals 11 and 12, of a limit that is looked up (document 02, wish 1)."""
+    if vehicle.limit != 0:
+        return
+    if vehicle.category == N1:
+        raise Refused(11, 0)
+    if not 1 <= vehicle.phase <= 3 or vehicle.low_car > 1:
+        raise Refused(12, 0)
 
 
 def read_reading(kind, four):
@@ -408,8 +433,20 @@ def L_urban_of(PMR, W, C, kp):
     return rounded(level / 10)
 
 
-def is_pass(L_urban, vehicle):
-    return L_urban <= vehicle.limit
+def class_limits(PMR, is_low_car):
+    """The limits of a class for phases 1 to 3. Up to PMR 200.0, low cars have no row of their own."""
+    if PMR > LOW_CARS_ABOVE and is_low_car:
+        return LOW_CAR_LIMITS
+    return next((limits for highest, limits in LIMITS_UP_TO if PMR <= highest), LIMITS_ABOVE)
+
+
+def limit_found(vehicle, PMR):
+    """The limit as written, or looked up by class and phase (document 02, wish 1)."""
+    return class_limits(PMR, vehicle.low_car == 1)[vehicle.phase - 1] if vehicle.limit == 0 else vehicle.limit
+
+
+def is_pass(L_urban, limit):
+    return L_urban <= limit
 
 
 # The evaluation.
@@ -440,6 +477,7 @@ def reckon(sheet):
     refuse_form(sheet)
     records = records_of(sheet)
     vehicle = read_vehicle(records[0], records[-1])
+    refuse_look_up(vehicle)
     runs = [read_run(at, record) for at, record in enumerate(records[1:-1], start=1)]
 
     PMR = pmr_tenths(vehicle)
@@ -463,7 +501,8 @@ def reckon(sheet):
     a_test = a_test_of(a_ref, a[i], j is None)
     kp = kp_hundredths(PMR, W, C, a_urban, a_test)
     L_urban = L_urban_of(PMR, W, C, kp)
-    return Evaluation(rule, i, j, k, kp, W, C, L_urban, a_urban, a_ref, PMR, a_test, is_pass(L_urban, vehicle),
+    passes = is_pass(L_urban, limit_found(vehicle, PMR))
+    return Evaluation(rule, i, j, k, kp, W, C, L_urban, a_urban, a_ref, PMR, a_test, passes,
                       tuple(a[gear] for gear in chosen), wot_windows, crs_windows)
 
 

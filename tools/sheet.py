@@ -7,10 +7,13 @@
 
 A dash stands for standard input. The table has a row for each record and a column for each field, in any order. A blank
 level is four zero bytes, as an absent reading has. A blank right background is zero, which means the left's of the same
-record; its column may be missing. Every other field of the row's kind needs its cell. The cells:
+record, and a blank phase or low car is zero, as beside a written limit; their columns may be missing. Every other field of
+the row's kind needs its cell. The cells:
 
-    words          kind, category, start line, struck and readings, as `show` prints them; a byte with no word is its number
-    numbers        in the column's unit, with a decimal point: 44.2
+    words          kind, category, start line, low car, struck and readings, as `show` prints them; a byte with no word is its
+                   number
+    numbers        in the column's unit, with a decimal point: 44.2; a limit of 0 is looked up by PMR, phase and low car, which
+                   is `yes` for the class of low cars with at most four seats
     levels         decimals, for which the nearest 32-bit float is taken: 72.25; or the float's bits: 0x7FC00000
     other bytes    the bytes that have no column, by their place in the record: 5=01 22=FF00
 
@@ -29,8 +32,8 @@ from functools import lru_cache, partial
 from typing import NamedTuple
 
 from reckon import (ABSENT, ACCELERATION_RUN, CLOSING, CLOSING_NUMBERS, CONSTANT_RUN, HIGHEST_LEVEL, LEVEL,
-                    LOWEST_LEVEL, MOST_SHEET_BYTES, OVERLOAD, RECORD_BYTES, RUN_NUMBERS, VEHICLE, VEHICLE_NUMBERS,
-                    float_value, number, reading_layout, records_of)
+                    LOWEST_LEVEL, M1, MOST_SHEET_BYTES, N1, OVERLOAD, RECORD_BYTES, RUN_NUMBERS, VEHICLE, VEHICLE_NUMBERS,
+                    WRITTEN_LIMIT, float_value, number, reading_layout, records_of)
 from sheets import float_bytes
 
 LOWEST_NORMAL, HIGHEST_FINITE = Fraction(1, 2 ** 126), 2 ** 128 - 2 ** 104  # of 32-bit floats
@@ -154,6 +157,44 @@ class Choice(Field):
 
 
 @dataclass
+class Limit(Number):
+    """Zero means the limit that paragraph 6.2.2 has for the class of an M1."""
+
+    def is_looked_up(self, record):
+        return not any(self.part(record))
+
+    def shown(self, record):
+        if not self.is_looked_up(record):
+            return super().shown(record)
+        by_class = f"{super().shown(record)}, which means by class (paragraph 6.2.2)"
+        return f"{by_class}, for M1 alone" if record[CATEGORY.at] == N1 else by_class
+
+    def is_allowed(self, record):
+        return self.is_looked_up(record) or super().is_allowed(record)
+
+    def allowed(self, record):
+        return f"0 (by class) or {super().allowed(record)}"
+
+
+@dataclass
+class LookUpByte(Choice):
+    """A byte by which the limit is looked up. Its words are what the table of limits has; the layout allows any byte, but only
+    zero if the limit is not looked up."""
+
+    limit: Limit = None
+
+    def shown(self, record):
+        has_no_limit = self.limit.is_looked_up(record) and not super().is_allowed(record)
+        return f"{super().shown(record)}, for which there is no limit" if has_no_limit else super().shown(record)
+
+    def is_allowed(self, record):
+        return self.limit.is_looked_up(record) or record[self.at] == 0
+
+    def allowed(self, record):
+        return "0, since the limit is not 0"
+
+
+@dataclass
 class Level(Field):
     """A 32-bit float. What is allowed depends on the kind of its reading."""
 
@@ -229,15 +270,19 @@ def backgrounds(ranges, when, left_at, right_at):
 
 READINGS = ((LEVEL, "level"), (OVERLOAD, "overload"), (ABSENT, "absent"))
 
+CATEGORY = Choice("category", 1, words=((M1, "M1"), (N1, "N1")))
+LIMIT = ranged((WRITTEN_LIMIT,), "limit", 14, "dB(A)", field=Limit)
 VEHICLE_FIELDS = (
-    Choice("category", 1, words=((1, "M1"), (2, "N1"))),
+    CATEGORY,
     Choice("start line", 2, words=((0, "AA'"), (1, "PP'"))),
     ranged(VEHICLE_NUMBERS, "power", 4, "kW", decimals=1),
     ranged(VEHICLE_NUMBERS, "mass in running order", 6, "kg"),
     ranged(VEHICLE_NUMBERS, "length", 8, "cm"),
     ranged(VEHICLE_NUMBERS, "rated engine speed", 10, "per minute"),
     *backgrounds(VEHICLE_NUMBERS, "before", 12, 18),
-    ranged(VEHICLE_NUMBERS, "limit", 14, "dB(A)"),
+    LIMIT,
+    LookUpByte("phase", 16, words=((1, "1"), (2, "2"), (3, "3")), limit=LIMIT),
+    LookUpByte("low car", 17, words=((0, "no"), (1, "yes")), limit=LIMIT),
 )
 START_SPEED = ranged(RUN_NUMBERS, "speed at the start line", 16, "km/h", decimals=1)
 END_SPEED = ranged(RUN_NUMBERS, "speed at BB'", 18, "km/h", decimals=1)
@@ -458,9 +503,9 @@ def left_over_of(cells):
 
 
 def field_bytes(cells, field):
-    """The bytes of a field. A level or a right background alone may be blank."""
+    """The bytes of a field. A level, a right background, phase or low car alone may be blank."""
     part = read_cell(cells, field.column(), field.bytes_of)
-    if part is None and not isinstance(field, (Level, RightBackground)):
+    if part is None and not isinstance(field, (Level, RightBackground, LookUpByte)):
         raise Unreadable(f"column {field.column()!r} is blank")
     return part or bytes(field.size)
 

@@ -10,6 +10,7 @@ refuses it with 2, 3 or 4; of the other sheets, its lowest record with a fault m
 import os
 import subprocess
 import sys
+from itertools import product
 
 import sheets
 from corpus import all_sheets
@@ -21,8 +22,8 @@ from sheet import FIELDS, Unreadable, faults_of, level_bytes, level_cell, sheet_
 TOOL = os.path.join(os.path.dirname(os.path.abspath(__file__)), "sheet.py")
 LONGEST_RANDOM = 200  # bytes
 
-# A table as a crew may write it: columns in an order of their own, blank rows, a blank level of an absent reading, and a blank
-# right background, which means the left's.
+# A table as a crew may write it: columns in an order of their own, blank rows, a blank level of an absent reading, a blank right
+# background, which means the left's, and no columns for phase and low car, which a written limit does not need.
 HEADER = ("kind,gear,left reading,left level [dB(A)],right reading,right level [dB(A)],struck,speed at the start line [km/h],"
           "speed at BB' [km/h],highest engine speed [per minute],category,start line,power [kW],mass in running order [kg],"
           "length [cm],rated engine speed [per minute],left background before [dB(A)],limit [dB(A)],left background after [dB(A)],"
@@ -55,16 +56,58 @@ ONE_BACKGROUND = (
 )
 FROM_ONE = sheets.sheet(sheets.vehicle(2, 1, 865, 2049, 450, 5500, 403, 72), [], 380)
 
+
+def with_limit(sheet, limit, phase, low_car):
+    """A sheet with other bytes from 14 to 17."""
+    return sheet[:14] + limit.to_bytes(2, "little") + bytes([phase, low_car]) + sheet[18:]
+
+
+# Tables of the same sheet with columns for phase and low car, and of sheets whose limit is looked up, one of them without these.
+CLASS_COLUMNS = f"{NO_SIDE},low car,phase"
+LOOKED_UP_CELLS = VEHICLE_CELLS.replace("N1", "M1").replace("72", "0")
+FROM_M1 = sheets.sheet(sheets.vehicle(1, 1, 865, 2049, 450, 5500, 403, 72), [], 380)
+BY_CLASS = with_limit(FROM_M1, 0, 2, 1)
+WITH_CLASS = (
+    (f"{CLASS_COLUMNS}\n{VEHICLE_CELLS},no,0\n{CLOSING_CELLS}", FROM_ONE),
+    (f"{CLASS_COLUMNS}\n{VEHICLE_CELLS},,\n{CLOSING_CELLS}", FROM_ONE),
+    (f"{CLASS_COLUMNS}\n{LOOKED_UP_CELLS},yes,2\n{CLOSING_CELLS}", BY_CLASS),
+    (f"{CLASS_COLUMNS}\n{LOOKED_UP_CELLS},no,3\n{CLOSING_CELLS}", with_limit(FROM_M1, 0, 3, 0)),
+    (f"{CLASS_COLUMNS}\n{LOOKED_UP_CELLS},7,255\n{CLOSING_CELLS}", with_limit(FROM_M1, 0, 255, 7)),
+    (f"{CLASS_COLUMNS}\n{LOOKED_UP_CELLS},,\n{CLOSING_CELLS}", with_limit(FROM_M1, 0, 0, 0)),
+    (f"{NO_SIDE}\n{LOOKED_UP_CELLS}\n{CLOSING_CELLS}", with_limit(FROM_M1, 0, 0, 0)),
+)
+
 # Backgrounds at the ends of their range and of their bytes, beside these, and with the bytes of the highest swapped.
 ENDS = (0, 1, 255, 256, 999, 1000, 1001, 0xE803, 65535)
 
-# What `show` must say of a right background.
+# Limits likewise, with the bytes of the lowest and the highest swapped, and phase and low car at the ends of what has a limit.
+LIMITS = (0, 1, 49, 50, 72, 100, 101, 255, 256, 0x3200, 0x6400, 65535)
+PHASES, LOW_CARS = (0, 1, 2, 3, 4, 255), (0, 1, 2, 255)
+
+# What `show` must say of a right background, a limit, phase and low car.
 SHOWN = (
     (FROM_HAND, "    right background before   39.1 dB(A)"),
     (FROM_HAND, "    right background after    0.0 dB(A), which means the left's: 38.0 dB(A)"),
     (FROM_ONE, "    right background before   0.0 dB(A), which means the left's: 40.3 dB(A)"),
     (FROM_ONE[:38] + b"\xE9\x03" + FROM_ONE[40:],
      "  FAULT right background after, byte 6 (38 of the sheet): 100.1 dB(A); allowed: 0.0 to 100.0 dB(A)"),
+    (FROM_ONE, "    limit                     72 dB(A)"),
+    (FROM_ONE, "    phase                     0"),
+    (FROM_ONE, "    low car                   no"),
+    (BY_CLASS, "    limit                     0 dB(A), which means by class (paragraph 6.2.2)"),
+    (BY_CLASS, "    phase                     2"),
+    (BY_CLASS, "    low car                   yes"),
+    (BY_CLASS, "0 faults of the sheet; records with a fault: none"),
+    (with_limit(FROM_ONE, 0, 2, 1), "    limit                     0 dB(A), which means by class (paragraph 6.2.2), for M1 alone"),
+    (with_limit(FROM_ONE, 0, 2, 1), "0 faults of the sheet; records with a fault: none"),
+    (with_limit(FROM_M1, 0, 4, 2), "    phase                     4, for which there is no limit"),
+    (with_limit(FROM_M1, 0, 4, 2), "    low car                   2, for which there is no limit"),
+    (with_limit(FROM_M1, 0, 4, 2), "0 faults of the sheet; records with a fault: none"),
+    (with_limit(FROM_M1, 0, 0, 0), "    phase                     0, for which there is no limit"),
+    (with_limit(FROM_M1, 72, 1, 0), "  FAULT phase, byte 16 (16 of the sheet): 1; allowed: 0, since the limit is not 0"),
+    (with_limit(FROM_M1, 72, 0, 1), "  FAULT low car, byte 17 (17 of the sheet): yes; allowed: 0, since the limit is not 0"),
+    (with_limit(FROM_M1, 49, 0, 0), "  FAULT limit, byte 14 (14 of the sheet): 49 dB(A); allowed: 0 (by class) or 50 to 100 dB(A)"),
+    (with_limit(FROM_M1, 256, 0, 0), "  FAULT limit, byte 14 (14 of the sheet): 256 dB(A); allowed: 0 (by class) or 50 to 100 dB(A)"),
 )
 
 # Floats by their bits, and the cell of each: the shortest decimal, or the bits where no decimal names the float.
@@ -88,6 +131,10 @@ UNREADABLE = (
     (f"{HEADER}\n{VEHICLE_ROW.replace('vehicle,', 'vehicle,3')}", "row 2, column 'gear': '3' "),
     (f"{HEADER}\n{VEHICLE_ROW.replace('39.1', '39.15')}", "row 2, column 'right background before [dB(A)]': '39.15' "),
     (f"{HEADER}\n{CLOSING_ROW.replace(',,2', ',39.1,2')}", "row 2, column 'right background before [dB(A)]': '39.1' "),
+    (f"{CLASS_COLUMNS}\n{LOOKED_UP_CELLS},2.5,1", "row 2, column 'low car': '2.5' "),
+    (f"{CLASS_COLUMNS}\n{LOOKED_UP_CELLS},no,256", "row 2, column 'phase': '256' "),
+    (f"{CLASS_COLUMNS}\n{LOOKED_UP_CELLS},no,two", "row 2, column 'phase': 'two' "),
+    (f"{CLASS_COLUMNS}\n{CLOSING_CELLS},,1", "row 2, column 'phase': '1' "),
     (f"{HEADER}\n{VEHICLE_ROW},1", "row 2: "),
     (f"{HEADER},colour\n", "row 1: 'colour' "),
     (f"{HEADER},kind\n", "row 1: 'kind' "),
@@ -158,10 +205,11 @@ def random_bytes(random, count):
 
 
 def changed_bytes():
-    """A sheet with each byte of each kind of record at each value."""
-    for at in range(len(FROM_HAND)):
-        for value in range(256):
-            yield at, FROM_HAND[:at] + bytes([value]) + FROM_HAND[at + 1:]
+    """Sheets with a written limit and with one that is looked up, each byte of each kind of record at each value."""
+    for sheet in (FROM_HAND, BY_CLASS):
+        for at in range(len(sheet)):
+            for value in range(256):
+                yield at, sheet[:at] + bytes([value]) + sheet[at + 1:]
 
 
 def backgrounds_at_ends():
@@ -173,12 +221,18 @@ def backgrounds_at_ends():
             yield bytes(sheet)
 
 
+def limits_at_ends():
+    """Sheets of both categories with each limit and each class."""
+    return (with_limit(sheet, *fields) for sheet in (FROM_M1, FROM_ONE) for fields in product(LIMITS, PHASES, LOW_CARS))
+
+
 def may_be_named(fault, place):
-    """Whether a change of the byte at a place of a record may cause a fault: by its field, its reading, its speeds."""
+    """Whether a change of the byte at a place of a record may cause a fault: by its field, its reading, its speeds, its limit."""
     if fault.name == "unnamed bytes":
         return place in map(int, (group.split("=")[0] for group in fault.value.split()))
     field = next(field for fields in FIELDS.values() for field in fields if field.name == fault.name)
-    places = {"left level": (3,), "right level": (4,), "speed at BB'": (16, 17)}.get(fault.name, ())
+    of_others = {"left level": (3,), "right level": (4,), "speed at BB'": (16, 17), "phase": (14, 15), "low car": (14, 15)}
+    places = of_others.get(fault.name, ())
     return place in (*range(field.at, field.at + field.size), *places)
 
 
@@ -222,7 +276,7 @@ def told(table):
 
 
 def check_by_hand():
-    tables = ((BY_HAND, FROM_HAND), *((table, FROM_ONE) for table in ONE_BACKGROUND))
+    tables = ((BY_HAND, FROM_HAND), *((table, FROM_ONE) for table in ONE_BACKGROUND), *WITH_CLASS)
     hand = report("tables written by hand give their sheets", [table for table, sheet in tables if sheet_of(table) != sheet], len(tables))
     unreadable = (*UNREADABLE, *BLANK)
     wrong = [(table, told(table)) for table, words in unreadable if not told(table).startswith(words)]
@@ -231,7 +285,7 @@ def check_by_hand():
 
 def check_shown():
     wrong = [line for sheet, line in SHOWN if line not in shown_sheet(sheet)]
-    return report("lines on right backgrounds are shown", wrong, len(SHOWN))
+    return report("lines on right backgrounds, limits and classes are shown", wrong, len(SHOWN))
 
 
 def tool(arguments, content):
@@ -265,6 +319,7 @@ def main(count=5000, seed=1):
         check_sheets("random byte strings agree", random_bytes(random, count // 10)),
         check_sheets("sheets with one byte changed agree", (sheet for _, sheet in changed_bytes())),
         check_sheets("sheets with a background at an end agree", backgrounds_at_ends()),
+        check_sheets("sheets with a limit and a class at an end agree", limits_at_ends()),
         check_names(),
         check_levels(random, count),
         check_by_hand(),

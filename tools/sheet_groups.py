@@ -3,8 +3,8 @@
 import sheets
 from make import (Gear, beside_starts, changed, float_step, gear_runs, loud_copy, one_gear_sheet, short_runs, short_sheet, whole_with_runs,
                   with_bytes, with_number)
-from reckon import (ABSENT, ACCELERATION_RUN, CLOSING_NUMBERS, CLOSING_UNNAMED, CONSTANT_RUN, LEVEL, OVERLOAD, RUN_NUMBERS, RUN_UNNAMED,
-                    VEHICLE_NUMBERS, VEHICLE_UNNAMED, number, records_of)
+from reckon import (ABSENT, ACCELERATION_RUN, CLOSING_NUMBERS, CLOSING_UNNAMED, CONSTANT_RUN, LEVEL, LOOK_UP_BYTES, N1, OVERLOAD,
+                    RUN_NUMBERS, RUN_UNNAMED, VEHICLE_NUMBERS, VEHICLE_UNNAMED, WRITTEN_LIMIT, number, records_of)
 from sheets import run, sheet, tenths, vehicle
 
 
@@ -62,7 +62,10 @@ RIGHT_BEFORE, RIGHT_AFTER = (18, 19), (6, 7)
 
 
 def vehicle_layouts(random):
-    """Each field, and each byte from 16 on, unnamed or of the right's background."""
+    """Each field, and each byte from 16 on beside a written limit, unnamed or of the right's background.
+
+    A limit of 0 breaks no layout; without a phase it is refusal 12.
+    """
     whole = short_sheet()
     for at, values in ((1, (0, 1, 2, 3, 255)), (2, (0, 1, 2, 255)), (3, (1, 255))):
         for value in values:
@@ -192,9 +195,17 @@ def two_causes(random):
                 yield session_with(random, {first: way // 2, second: way % 2})
 
 
+# The fields of a vehicle to which a cause applies, in the ways 0 and 1.
+CARS_WITH = {6: (dict(power=10, mass=5000), dict(power=20000, mass=300)),
+             11: (dict(limit=0, category=N1, phase=1), dict(limit=0, category=N1, phase=3, low_car=1)),
+             12: (dict(limit=0, phase=4), dict(limit=0, phase=1, low_car=2))}
+
+
 def session_with(random, causes):
     """A sheet to which these causes apply, each in the way 0 or 1; PMR is 66.7 and R 1.49 but for cause 6."""
-    car = (dict(power=10, mass=5000), dict(power=20000, mass=300))[causes[6]] if 6 in causes else {}
+    car = {}
+    for cause in sorted(CARS_WITH.keys() & causes.keys()):
+        car.update(CARS_WITH[cause][causes[cause]])
     whole = sheet(vehicle(rated_speed=5000, **car), runs_with(random, causes))
     last = len(whole) // 32 - 1
     if 5 in causes:
@@ -309,17 +320,22 @@ def range_ends(random):
     The right's backgrounds have groups of their own.
     """
     whole = one_gear_sheet(random)
-    for record, numbers, others in ((0, VEHICLE_NUMBERS, RIGHT_BEFORE), (5, RUN_NUMBERS, ()), (9, CLOSING_NUMBERS, RIGHT_AFTER)):
-        for at, lowest, highest in (one for one in numbers if one[0] not in others):
+    for record, numbers, others in ((0, (*VEHICLE_NUMBERS, WRITTEN_LIMIT), RIGHT_BEFORE), (5, RUN_NUMBERS, ()),
+                                    (9, CLOSING_NUMBERS, RIGHT_AFTER)):
+        for at, lowest, highest in sorted(one for one in numbers if one[0] not in others):
             for value in (lowest - 1, lowest, highest, highest + 1):
                 if value >= 0:
                     yield with_number(whole, record, at, value)
 
 
 def unnamed_bytes(random):
-    """Each unnamed byte of each kind of record, which is refusal 5, and in their places the bytes of the right's background."""
+    """Each unnamed byte of each kind of record, which is refusal 5, and in their places the bytes of the right's background.
+
+    The limit is written, so the bytes of a look-up are unnamed.
+    """
     whole = one_gear_sheet(random)
-    for record, places in ((0, VEHICLE_UNNAMED + RIGHT_BEFORE), (1, RUN_UNNAMED), (8, RUN_UNNAMED), (9, CLOSING_UNNAMED + RIGHT_AFTER)):
+    for record, places in ((0, VEHICLE_UNNAMED + LOOK_UP_BYTES + RIGHT_BEFORE), (1, RUN_UNNAMED), (8, RUN_UNNAMED),
+                           (9, CLOSING_UNNAMED + RIGHT_AFTER)):
         for at in sorted(places):
             yield changed(whole, 32 * record + at, 1 << random.below(8))
 

@@ -1,4 +1,6 @@
-"""Other readings of "The sheet" and of the table of refusals."""
+"""Other readings of "The sheet" and of the table of refusals, with document 02's refusals 11 and 12 in it."""
+
+from itertools import combinations
 
 import sheets
 from misread import PAPER, answers, by_edit, reading, simple
@@ -119,11 +121,11 @@ OTHERS = simple(
 ) + by_edit(
     ("reading kinds up to 3", "reading_layout", "kind in (LEVEL, OVERLOAD)", "kind in (LEVEL, OVERLOAD, 3)"),
     ("any reading kind but 0 has a level", "reading_layout", "kind in (LEVEL, OVERLOAD) and", ""),
-    ("a category 3", "vehicle_layout", "in (1, 2)", "in (1, 2, 3)"),
+    ("a category 3", "vehicle_layout", "in (M1, N1)", "in (M1, N1, 3)"),
     ("a start line 2", "vehicle_layout", "in (0, 1)", "in (0, 1, 2)"),
-    ("no category", "vehicle_layout", "record[1] in (1, 2)", "record[1] in (0, 1, 2)"),
+    ("no category", "vehicle_layout", "record[1] in (M1, N1)", "record[1] in (0, M1, N1)"),
     ("any start line", "vehicle_layout", " and record[2] in (0, 1)", ""),
-    ("any category", "vehicle_layout", " and record[1] in (1, 2)", ""),
+    ("any category", "vehicle_layout", " and record[1] in (M1, N1)", ""),
     ("a struck byte above 1 is no fault of layout", "run_layout", " and record[2] in (0, 1)", ""),
     ("a struck byte above 1 strikes", "run_layout", " and record[2] in (0, 1)", " and record[2] in range(256)"),
     ("BB' not below the start speed in constant-speed runs too", "run_layout", "record[0] == ACCELERATION_RUN and ", ""),
@@ -161,12 +163,16 @@ OTHERS = simple(
     ("refusal 4 names the run number", "refuse_form", "Refused(4, last)", "Refused(4, number(records[last], 2))"),
     ("refusal 4 has no place", "refuse_form", "Refused(4, last)", "Refused(4, 0)"),
     ("a category N1 starts from PP'", "read_vehicle", "from_pp=first[2] == 1", "from_pp=first[2] == 1 or first[1] == 2"),
-    ("a category N1 has 1 dB more", "read_vehicle", "limit=number(first, 14)", "limit=number(first, 14) + (first[1] == 2)"),
+    ("a category N1 has 1 dB more", "limit_found", "else vehicle.limit", "else vehicle.limit + (vehicle.category == N1)"),
     ("a category N1 has 25 kg more", "read_vehicle", "mass=number(first, 6)", "mass=number(first, 6) + 25 * (first[1] == 2)"),
 )
 
 
 # The order of the table. A sheet is mended of one cause after the other, to see which comes next.
+
+ORDER = (2, 3, 4, 5, 11, 12, 6, 7, 8, 9, 10)
+MENDED = ORDER[:ORDER.index(9)]  # what comes after these causes can be told
+
 
 def joined(first, runs, last):
     return first + b"".join(runs) + last[:2] + len(runs).to_bytes(2, "little") + last[4:]
@@ -184,6 +190,10 @@ def mended(sheet, number_, place):
     if number_ == 5 and PAPER["vehicle_layout"](records[0]):
         runs = [record for record in records[1:-1] if PAPER["run_layout"](record)]
         return joined(records[0], runs, sheets.closing(0, *(min(number(records[-1], at), 1000) for at in (4, 6))))
+    if number_ == 11:
+        return with_part(sheet, 1, b"\x01")
+    if number_ == 12:
+        return with_part(sheet, 16, bytes((min(max(sheet[16], 1), 3), min(sheet[17], 1))))
     if number_ == 6:
         low = 1000 * number(records[0], 4) < 50 * number(records[0], 6)
         return with_part(sheet, 4, (50 if low else 6000).to_bytes(2, "little") + (1000).to_bytes(2, "little"))
@@ -219,12 +229,13 @@ def passing_over(causes, wanted):
 
 def moved_up(cause, above):
     """A cause checked before another one that stands above it."""
-    return passing_over(range(above, cause), lambda word, number_: (word, number_) == ("REFUSED", cause))
+    return passing_over(ORDER[ORDER.index(above):ORDER.index(cause)], lambda word, number_: (word, number_) == ("REFUSED", cause))
 
 
 def moved_down(cause, below):
     """A cause checked after another one that stands below it."""
-    return passing_over((cause,), lambda word, number_: word == "REFUSED" and number_ <= below)
+    wanted = ORDER[:ORDER.index(below) + 1]
+    return passing_over((cause,), lambda word, number_: word == "REFUSED" and number_ in wanted)
 
 
 def left_out(cause):
@@ -232,9 +243,10 @@ def left_out(cause):
 
 
 ORDERS = [
-    *((f"refusal {second} before {first}", moved_up(second, first)) for first in range(2, 9) for second in range(first + 1, 11)),
-    *((f"refusal {first} after {second}", moved_down(first, second)) for first in range(2, 8) for second in range(first + 2, 11)),
-    *((f"no refusal {cause}", left_out(cause)) for cause in range(2, 9)),
+    *((f"refusal {second} before {first}", moved_up(second, first)) for first, second in combinations(ORDER, 2) if first in MENDED),
+    *((f"refusal {first} after {second}", moved_down(first, second)) for first, second in combinations(ORDER, 2)
+      if first in MENDED[:-1] and second != ORDER[ORDER.index(first) + 1]),
+    *((f"no refusal {cause}", left_out(cause)) for cause in MENDED),
 ]
 
 
@@ -244,7 +256,7 @@ def placed(cause, change):
     return answers(lambda word, *rest: (word, cause, change(rest[1])) if (word, rest[0]) == ("REFUSED", cause) else (word, *rest))
 
 
-CHANGES = (("one more", range(2, 11), lambda place: place + 1), ("one less", (4, 5, 7, 8, 10), lambda place: max(place - 1, 0)),
+CHANGES = (("one more", ORDER, lambda place: place + 1), ("one less", (4, 5, 7, 8, 10), lambda place: max(place - 1, 0)),
            ("0", (4, 5, 7, 8, 10), lambda place: 0), ("1 at the least", (4, 5, 7), lambda place: max(place, 1)),
            ("by 8 bits", (4, 5), lambda place: place % 256), ("by 4 bits", (7, 10), lambda place: place % 16))
 PLACES = [(f"place of refusal {cause}: {words}", placed(cause, change)) for words, causes, change in CHANGES for cause in causes]

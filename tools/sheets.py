@@ -1,6 +1,7 @@
-"""Building sheets from named fields (document 01, "The sheet"; document 02, wish 8).
+"""Building sheets from named fields (document 01, "The sheet"; document 02, wishes 1 and 8).
 
 A background is the left's unless it is called the right's, and the right's is zero unless given: the same as the left's.
+The phase and the byte of low cars are zero unless given, as beside a written limit.
 """
 
 from fractions import Fraction
@@ -36,11 +37,12 @@ def put(record, at, value):
 
 
 def vehicle(category=1, start_line=0, power=1000, mass=1500, length=450, rated_speed=6000, background=400, limit=72,
-            right_background=0):
+            right_background=0, phase=0, low_car=0):
     record = bytearray(32)
     record[0:3] = bytes([VEHICLE, category, start_line])
     for at, value in zip(range(4, 16, 2), (power, mass, length, rated_speed, background, limit)):
         put(record, at, value)
+    record[16:18] = bytes([phase, low_car])
     put(record, 18, right_background)
     return bytes(record)
 

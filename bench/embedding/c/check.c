@@ -41,6 +41,10 @@ static void put(uint8_t *bytes, size_t at, unsigned number) {
     bytes[at + 1] = number >> 8;
 }
 
+static unsigned number_at(const uint8_t *bytes, size_t at) {
+    return bytes[at] + 256u * bytes[at + 1];
+}
+
 /* Changes of a 16-bit number of the worked sheet, each with its refusal. */
 static const struct {
     enum ruthimpo_refusal refusal;
@@ -66,10 +70,20 @@ static const struct {
     {RUTHIMPO_NO_CONSTANT_SPEED, 4, 18, 553},
     {RUTHIMPO_NO_CONSTANT_SPEED, 4, 32 * 21 + 6, 555},
     {RUTHIMPO_NO_CONSTANT_SPEED, 3, 32 * 21 + 6, 556},
-    /* the bytes beside it have no name */
-    {RUTHIMPO_BROKEN_RECORD, 0, 16, 0x0100},
+    /* the bytes after it have no name */
     {RUTHIMPO_BROKEN_RECORD, 0, 20, 0x0001},
     {RUTHIMPO_BROKEN_RECORD, 21, 32 * 21 + 8, 0x0001},
+    /* a written limit at the ends of its range and outside of it, and beside a phase or a low car */
+    {RUTHIMPO_BROKEN_RECORD, 0, 14, 1},
+    {RUTHIMPO_BROKEN_RECORD, 0, 14, 49},
+    {RUTHIMPO_ACCEPTED, 0, 14, 50},
+    {RUTHIMPO_ACCEPTED, 0, 14, 100},
+    {RUTHIMPO_BROKEN_RECORD, 0, 14, 101},
+    {RUTHIMPO_BROKEN_RECORD, 0, 14, 256},
+    {RUTHIMPO_BROKEN_RECORD, 0, 16, 0x0001},
+    {RUTHIMPO_BROKEN_RECORD, 0, 16, 0x0100},
+    /* a limit that is looked up, without a phase */
+    {RUTHIMPO_NO_LIMIT_ENTRY, 0, 14, 0},
 };
 
 static void check_refusals(void) {
@@ -126,6 +140,138 @@ static void check_backgrounds(void) {
         uint32_t refusal = ruthimpo_evaluate(sheet, worked_bytes, result, sizeof result, &place);
         check(refusal == RUTHIMPO_ACCEPTED && place == 0, "acceptance of backgrounds", n);
         check(memcmp(result, expected, sizeof expected) == 0, "result of backgrounds", n);
+    }
+}
+
+/* The worked sheet with a limit that is looked up, by its category, power, phase and byte of low cars, and the record whose byte 1
+ * is 17, or 0 for none, each with its refusal. A power of 73 is PMR 4.9. */
+static const struct {
+    enum ruthimpo_refusal refusal;
+    size_t place;
+    unsigned category, power, phase, low_car, broken;
+} without_limit[] = {
+    {RUTHIMPO_NO_LIMIT_FOR_N1, 0, 2, 1000, 1, 0, 0},
+    {RUTHIMPO_NO_LIMIT_FOR_N1, 0, 2, 1000, 0, 0, 0},
+    {RUTHIMPO_NO_LIMIT_FOR_N1, 0, 2, 1000, 9, 7, 0}, /* 11 before 12 */
+    {RUTHIMPO_NO_LIMIT_ENTRY, 0, 1, 1000, 0, 0, 0},
+    {RUTHIMPO_NO_LIMIT_ENTRY, 0, 1, 1000, 0, 1, 0},
+    {RUTHIMPO_NO_LIMIT_ENTRY, 0, 1, 1000, 4, 0, 0},
+    {RUTHIMPO_NO_LIMIT_ENTRY, 0, 1, 1000, 255, 1, 0},
+    {RUTHIMPO_NO_LIMIT_ENTRY, 0, 1, 1000, 1, 2, 0},
+    {RUTHIMPO_NO_LIMIT_ENTRY, 0, 1, 1000, 3, 255, 0},
+    {RUTHIMPO_BROKEN_RECORD, 0, 3, 1000, 1, 0, 0}, /* 5 before 11 and 12 */
+    {RUTHIMPO_BROKEN_RECORD, 7, 2, 1000, 9, 7, 7},
+    {RUTHIMPO_BROKEN_RECORD, 7, 1, 1000, 0, 0, 7},
+    {RUTHIMPO_BROKEN_RECORD, 7, 1, 1000, 1, 0, 7},
+    {RUTHIMPO_BROKEN_RECORD, 21, 2, 1000, 1, 0, 21},
+    {RUTHIMPO_BROKEN_RECORD, 21, 1, 1000, 0, 0, 21},
+    {RUTHIMPO_NO_LIMIT_FOR_N1, 0, 2, 73, 1, 0, 0}, /* 11 and 12 before 6 */
+    {RUTHIMPO_NO_LIMIT_ENTRY, 0, 1, 73, 0, 0, 0},
+    {RUTHIMPO_PMR_OUT_OF_RANGE, 0, 1, 73, 1, 0, 0},
+};
+
+static void put_class(uint8_t *sheet, unsigned phase, unsigned low_car) {
+    put(sheet, 14, 0);
+    put(sheet, 16, phase + 256 * low_car);
+}
+
+static void check_without_limit(void) {
+    for (size_t n = 0; n < sizeof without_limit / sizeof *without_limit; n++) {
+        uint8_t sheet[sizeof worked], result[ROOM];
+        size_t place = POISON;
+        memcpy(sheet, worked, sizeof sheet);
+        sheet[1] = without_limit[n].category;
+        put(sheet, 4, without_limit[n].power);
+        put_class(sheet, without_limit[n].phase, without_limit[n].low_car);
+        if (without_limit[n].broken != 0) {
+            sheet[32 * without_limit[n].broken + 1] = 17;
+        }
+        memset(result, POISON, sizeof result);
+        uint32_t refusal = ruthimpo_evaluate(sheet, worked_bytes, result, sizeof result, &place);
+        check(refusal == without_limit[n].refusal && place == without_limit[n].place, "refusal and place without a limit", n);
+        check(is_kept(result, 0), "result without a limit", n);
+    }
+}
+
+/* The worked sheet has L_urban 70 and PMR 66.7. Looked up, its limits are 72, 70 and 68, of low cars too: it fails in phase 3
+ * alone, and nothing else of its result changes. */
+static void check_worked_by_class(void) {
+    for (unsigned phase = 1; phase <= 3; phase++) {
+        for (unsigned low_car = 0; low_car <= 1; low_car++) {
+            uint8_t sheet[sizeof worked], result[ROOM], expected[ROOM];
+            size_t place = POISON;
+            memcpy(sheet, worked, sizeof sheet);
+            put_class(sheet, phase, low_car);
+            memset(result, POISON, sizeof result);
+            memset(expected, POISON, sizeof expected);
+            put_result(expected, 658);
+            expected[RUTHIMPO_PASS] = phase < 3;
+            uint32_t refusal = ruthimpo_evaluate(sheet, worked_bytes, result, sizeof result, &place);
+            check(refusal == RUTHIMPO_ACCEPTED && place == 0, "acceptance of the worked sheet by class in phase", phase);
+            check(memcmp(result, expected, sizeof expected) == 0, "result of the worked sheet by class in phase", phase);
+        }
+    }
+}
+
+/* Power and mass with the rounded PMR in tenths, and the limits of phases 1 to 3: at the ends of PMR, on both sides of each PMR at
+ * which the limits change, and as near to these as rounding parts them: 120.04 is 120.0, and 120.05 is 120.1. */
+static const struct {
+    unsigned power, mass, pmr, limits[3], limits_of_low_cars[3];
+} classes[] = {
+    {75, 1500, 50, {72, 70, 68}, {72, 70, 68}},
+    {1800, 1500, 1200, {72, 70, 68}, {72, 70, 68}},
+    {6002, 5000, 1200, {72, 70, 68}, {72, 70, 68}},
+    {2401, 2000, 1201, {73, 71, 69}, {73, 71, 69}},
+    {1801, 1500, 1201, {73, 71, 69}, {73, 71, 69}},
+    {2400, 1500, 1600, {73, 71, 69}, {73, 71, 69}},
+    {8002, 5000, 1600, {73, 71, 69}, {73, 71, 69}},
+    {3201, 2000, 1601, {75, 73, 71}, {75, 73, 71}},
+    {2401, 1500, 1601, {75, 73, 71}, {75, 73, 71}},
+    {3000, 1500, 2000, {75, 73, 71}, {75, 73, 71}},
+    {10002, 5000, 2000, {75, 73, 71}, {75, 73, 71}},
+    {4001, 2000, 2001, {75, 73, 71}, {75, 74, 72}},
+    {3001, 1500, 2001, {75, 73, 71}, {75, 74, 72}},
+    {9000, 1500, 6000, {75, 73, 71}, {75, 74, 72}},
+};
+
+/* The worked sheet with so many dB(A) as every level, and no acceleration but in gear 3: L_urban is that level for any PMR. */
+static void put_level(uint8_t *sheet, unsigned decibels) {
+    float level = (float)decibels;
+    for (size_t n = 1; n <= 20; n++) {
+        uint8_t *run = sheet + 32 * n;
+        run[0] = run[1] == 3 ? run[0] : 3;
+        memcpy(run + 8, &level, sizeof level);
+        memcpy(run + 12, &level, sizeof level);
+    }
+}
+
+/* An L_urban at the limit of a class and phase, which passes, or 1 dB above it. */
+static void check_at_limit(size_t n, unsigned low_car, unsigned phase, unsigned above) {
+    unsigned limit = (low_car ? classes[n].limits_of_low_cars : classes[n].limits)[phase - 1];
+    uint8_t sheet[sizeof worked], result[ROOM];
+    size_t place = POISON;
+    memcpy(sheet, worked, sizeof sheet);
+    put(sheet, 4, classes[n].power);
+    put(sheet, 6, classes[n].mass);
+    put_class(sheet, phase, low_car);
+    put_level(sheet, limit + above);
+    memset(result, POISON, sizeof result);
+    uint32_t refusal = ruthimpo_evaluate(sheet, worked_bytes, result, sizeof result, &place);
+    check(refusal == RUTHIMPO_ACCEPTED && place == 0, "acceptance by class", n);
+    check(number_at(result, RUTHIMPO_PMR) == classes[n].pmr, "PMR by class", n);
+    check(number_at(result, RUTHIMPO_L_URBAN) == limit + above, "L_urban by class", n);
+    check(result[RUTHIMPO_PASS] == (above == 0), "pass by class", n);
+    check(is_kept(result, RUTHIMPO_RESULT_BYTES), "bytes after a result by class", n);
+}
+
+static void check_classes(void) {
+    for (size_t n = 0; n < sizeof classes / sizeof *classes; n++) {
+        for (unsigned low_car = 0; low_car <= 1; low_car++) {
+            for (unsigned phase = 1; phase <= 3; phase++) {
+                check_at_limit(n, low_car, phase, 0);
+                check_at_limit(n, low_car, phase, 1);
+            }
+        }
     }
 }
 
@@ -610,6 +756,9 @@ int main(int count, char **names) {
     check(worked_bytes == 32 * 22, "bytes of the worked sheet", worked_bytes);
     check_refusals();
     check_backgrounds();
+    check_without_limit();
+    check_worked_by_class();
+    check_classes();
     check_null();
     check_line_buffers();
     check_alignments();

@@ -33,8 +33,8 @@ extern "C" {
 #define RUTHIMPO_RESULT_BYTES 32
 #define RUTHIMPO_LINE_BYTES 276
 
-/* Acceptance, or the number of a refusal. ruthimpo_evaluate answers 0 to 10 (document 01, "Refusals and what remains"),
- * ruthimpo_motorcycle 0, 22 or 23 (document 02, wish 14), ruthimpo_production_offer 0, 20 (document 02, wish 11)
+/* Acceptance, or the number of a refusal. ruthimpo_evaluate answers 0 to 12 (document 01, "Refusals and what remains"; document
+ * 02, wish 1), ruthimpo_motorcycle 0, 22 or 23 (document 02, wish 14), ruthimpo_production_offer 0, 20 (document 02, wish 11)
  * or 255, ruthimpo_production_status 0 or 255, ruthimpo_lorry_two_axles and ruthimpo_lorry_more_axles 0 or 21 (document 02,
  * wish 13); 255 is no number of the documents. */
 enum ruthimpo_refusal {
@@ -50,6 +50,8 @@ enum ruthimpo_refusal {
     RUTHIMPO_NOT_FALLING = 8,         /* the place is the lower gear of the first neighbours whose accelerations do not fall */
     RUTHIMPO_NO_RULE = 9,             /* every gear is dropped, or none of the rules chooses one */
     RUTHIMPO_NO_CONSTANT_SPEED = 10,  /* the place is the lowest chosen gear without a constant-speed window */
+    RUTHIMPO_NO_LIMIT_FOR_N1 = 11,    /* the limit is 0, to be looked up, and the category is N1 */
+    RUTHIMPO_NO_LIMIT_ENTRY = 12,     /* the limit is 0, and the phase is not from 1 to 3 or the byte of low cars is above 1 */
     RUTHIMPO_CAR_AFTER_VERDICT = 20,  /* the place is the number of cars counted */
     RUTHIMPO_REAR_OVERLOADED = 21,    /* the unladen load of the rear axle is over 75% of that axle's maximum */
     RUTHIMPO_LEVEL_OUT_OF_RANGE = 22, /* the place is the number of the first level that is not finite or not from 20.0 to 140.0 */
@@ -79,9 +81,19 @@ enum ruthimpo_field {
  * closing record the left and the right one after, in tenths of dB(A), 0 to 1,000; 0 on the right stands for the left of
  * the same record.
  *
+ * The limit, at 14 of the vehicle record, is 50 to 100, and then bytes 16 and 17 are zero; or it is 0 and is looked up for an M1
+ * (document 02, wish 1). Byte 16 is then the phase, 1 to 3, and byte 17 is 1 for the class of low cars with at most four seats,
+ * else 0. The limits in dB(A), by the PMR rounded to a tenth:
+ *
+ *     PMR                        phase 1  phase 2  phase 3
+ *     up to 120.0                   72       70       68
+ *     up to 160.0                   73       71       69
+ *     above 160.0                   75       73       71
+ *     above 200.0, byte 17 is 1     75       74       72
+ *
  * Answers 0 and puts the result record into the first 32 bytes of `result`; the bytes after them keep what they held.
- * Or answers the number of the refusal, 1 to 10, and leaves all of `result` as it was; the place of the refusal goes to
- * `place`. On success `place` is 0. */
+ * Or answers the number of the refusal, the first cause in the order 1 to 5, 11, 12, 6 to 10, and leaves all of `result` as it
+ * was; the place of the refusal goes to `place`. On success `place` is 0. */
 uint32_t ruthimpo_evaluate(const uint8_t *sheet, size_t sheet_bytes, uint8_t *result, size_t result_bytes,
                            size_t *place);
 

@@ -2,6 +2,7 @@
 //! 003, 004, 01 and 02.
 
 mod gears;
+mod limit;
 mod lorry;
 mod motorcycle;
 mod production;
@@ -105,7 +106,7 @@ fn evaluation(session: &Session) -> Result<Evaluation, Refusal> {
         }
     };
     let (kp, l_urban) = decide_l_urban(pmr, w, c, a_urban, a_test);
-    let passes = l_urban <= vehicle.limit;
+    let passes = l_urban <= session.limit.found(pmr);
     let j = j.map_or(0, |gear| gear.gear);
     Ok(Evaluation { rule, i: i.gear, j, k, kp, passes, w, c, l_urban, a_urban, a_ref, pmr, a_test })
 }

@@ -1,5 +1,6 @@
-//! The sheet: its layout and refusals 2 to 5 (document 01, "The sheet"; document 02, wish 8).
+//! The sheet: its layout and refusals 2 to 5, 11 and 12 (document 01, "The sheet"; document 02, wishes 1 and 8).
 
+use crate::limit::{has_limit_layout, Limit};
 use crate::{rounded, Refusal};
 
 pub const RECORD_BYTES: usize = 32;
@@ -11,7 +12,6 @@ pub struct Vehicle {
     pub mass: u32,
     pub length: u32,
     pub rated_speed: u16,
-    pub limit: u32,
 }
 
 #[derive(Clone, Copy, PartialEq, Eq)]
@@ -48,6 +48,7 @@ pub struct Background {
 
 pub struct Session {
     pub vehicle: Vehicle,
+    pub limit: Limit,
     pub background: Background,
     pub runs: Vec<Run>,
 }
@@ -73,7 +74,8 @@ impl Session {
             .map(|(record, place)| read_run(record).ok_or((5, place)))
             .collect::<Result<_, _>>()?;
         let after = read_closing(closing).ok_or((5, last as u32))?;
-        Ok(Session { vehicle, background: before.larger(after), runs })
+        let limit = Limit::read(first)?;
+        Ok(Session { vehicle, limit, background: before.larger(after), runs })
     }
 }
 
@@ -91,15 +93,15 @@ impl Background {
     }
 }
 
-fn number(record: &[u8], at: usize) -> u16 {
+pub fn number(record: &[u8], at: usize) -> u16 {
     u16::from_le_bytes([record[at], record[at + 1]])
 }
 
-fn number_within(record: &[u8], at: usize, lowest: u16, highest: u16) -> Option<u16> {
+pub fn number_within(record: &[u8], at: usize, lowest: u16, highest: u16) -> Option<u16> {
     Some(number(record, at)).filter(|number| (lowest..=highest).contains(number))
 }
 
-fn are_zero(bytes: &[u8]) -> bool {
+pub fn are_zero(bytes: &[u8]) -> bool {
     bytes.iter().all(|&byte| byte == 0)
 }
 
@@ -111,11 +113,10 @@ fn read_vehicle(record: &[u8]) -> Option<(Vehicle, Background)> {
         mass: number_within(record, 6, 300, 5_000)?.into(),
         length: number_within(record, 8, 100, 2_000)?.into(),
         rated_speed: number_within(record, 10, 500, 20_000)?,
-        limit: number_within(record, 14, 50, 100)?.into(),
     };
     let before = Background::read(record, 12, 18)?;
-    let unnamed_are_zero = record[3] == 0 && are_zero(&record[16..18]) && are_zero(&record[20..]);
-    (matches!(record[1], 1 | 2) && unnamed_are_zero).then_some((vehicle, before))
+    let unnamed_are_zero = record[3] == 0 && are_zero(&record[20..]);
+    (matches!(record[1], 1 | 2) && has_limit_layout(record) && unnamed_are_zero).then_some((vehicle, before))
 }
 
 fn read_run(record: &[u8]) -> Option<Run> {
@@ -142,7 +143,7 @@ fn read_closing(record: &[u8]) -> Option<Background> {
     Background::read(record, 4, 6).filter(|_| record[1] == 0 && are_zero(&record[8..]))
 }
 
-fn read_flag(byte: u8) -> Option<bool> {
+pub fn read_flag(byte: u8) -> Option<bool> {
     match byte {
         0 => Some(false),
         1 => Some(true),

@@ -2,7 +2,7 @@
 
 use crate::random::Random;
 use crate::sheets::{
-    put, run, sheet, speeds_for, Backgrounds, Record, Vehicle, ACCELERATION, CONSTANT, RECORD, WORKED,
+    put, run, sheet, speeds_for, Backgrounds, Limit, Record, Vehicle, ACCELERATION, CONSTANT, M1, N1, RECORD,
 };
 
 /// The patterns of 20.0 and 140.0.
@@ -11,6 +11,9 @@ const HIGHEST: u32 = 0x430C_0000;
 
 /// Tenths, from one that no level is near to one that makes some levels not valid.
 const BACKGROUNDS: [u16; 5] = [300, 400, 500, 550, 580];
+
+/// The PMR, in tenths, up to which a row of the limits reaches.
+const CLASS_EDGES: [i64; 3] = [1200, 1600, 2000];
 
 /// A sheet to try: a session, a damaged sheet of the corpus, a damaged session, or arbitrary bytes.
 pub fn any_sheet(random: &mut Random, corpus: &[Vec<u8>]) -> Vec<u8> {
@@ -48,16 +51,41 @@ fn backgrounds(random: &mut Random) -> Backgrounds {
     Backgrounds { left, right }
 }
 
+/// A limit that is written, or 0 with a phase and a class of which most have a limit.
+fn limit(random: &mut Random) -> Limit {
+    if random.chance(50) {
+        return Limit { written: random.between(60, 80) as u16, phase: 0, low_car: 0 };
+    }
+    let phase = if random.chance(90) { random.between(1, 3) as u8 } else { random.pick(&[0, 4, 255]) };
+    let low_car = if random.chance(95) { random.below(2) as u8 } else { random.pick(&[2, 255]) };
+    Limit { written: 0, phase, low_car }
+}
+
+/// Power and mass: common ones, beside a PMR at which the limits change, or any.
+fn power_and_mass(random: &mut Random) -> (u16, u16) {
+    match random.below(10) {
+        0..4 => (random.between(300, 3000) as u16, random.between(800, 2500) as u16),
+        4..8 => {
+            let (mass, edge) = (random.between(800, 2500), random.pick(&CLASS_EDGES));
+            // The least power whose rounded PMR is above the edge, or the power before it.
+            let least = (mass * (2 * edge + 1) + 1999) / 2000;
+            ((least - random.between(0, 1)) as u16, mass as u16)
+        }
+        _ => (number_near(random, 10, 20_000), number_near(random, 300, 5_000)),
+    }
+}
+
 fn vehicle(random: &mut Random) -> Vehicle {
-    let common = random.chance(70);
+    let (power, mass) = power_and_mass(random);
     Vehicle {
+        category: if random.chance(90) { M1 } else { N1 },
         start_line: random.below(2) as u8,
-        power: if common { random.between(300, 3000) as u16 } else { number_near(random, 10, 20_000) },
-        mass: if common { random.between(800, 2500) as u16 } else { number_near(random, 300, 5_000) },
+        power,
+        mass,
         length: number_near(random, 100, 2_000),
         rated_speed: random.between(3900, 6000) as u16,
         before: backgrounds(random),
-        limit: random.between(60, 80) as u16,
+        limit: limit(random),
     }
 }
 
@@ -65,8 +93,8 @@ fn vehicle(random: &mut Random) -> Vehicle {
 fn session(random: &mut Random) -> Vec<u8> {
     let vehicle = vehicle(random);
     let pmr = u32::from(vehicle.power) * 1000 / u32::from(vehicle.mass);
-    // Gears about a_ref, so that each rule comes up.
-    let reference = if (50..=6000).contains(&pmr) { reckoning::reference::a_ref(pmr) } else { WORKED.limit.into() };
+    // Gears about a_ref, so that each rule comes up; a PMR out of range has none.
+    let reference = if (50..=6000).contains(&pmr) { reckoning::reference::a_ref(pmr) } else { 100 };
     let gears = random.pick(&[1, 1, 2, 2, 3, 4, 6, 16]);
     let step = random.pick(&[3, 10, 20, 40, 90]);
     let mut a = i64::from(reference) + random.between(-20, step * i64::from(gears));
@@ -139,7 +167,7 @@ fn changed(random: &mut Random, mut sheet: Vec<u8>) -> Vec<u8> {
     let at = random.below(sheet.len());
     let record = at / RECORD * RECORD;
     let is_whole = record + RECORD <= sheet.len();
-    match random.below(17) {
+    match random.below(18) {
         0 => sheet[at] = random.next() as u8,
         1 => sheet[at] ^= 1 << random.below(8),
         2 => sheet.truncate(at),
@@ -170,6 +198,7 @@ fn changed(random: &mut Random, mut sheet: Vec<u8>) -> Vec<u8> {
         }
         14 if is_whole => sheet[record..record + RECORD].fill(0),
         15 if is_whole => other_background(random, &mut sheet),
+        16 if is_whole => other_limit(random, &mut sheet),
         _ => sheet.extend((0..random.below(40)).map(|_| 0)),
     }
     sheet
@@ -194,6 +223,23 @@ fn other_background(random: &mut Random, sheet: &mut [u8]) {
         0..3 => sheet.swap(place, place + 1),
         3 => put(sheet, place, random.between(0, 1_000) as u16),
         _ => put(sheet, place, random.pick(&[0, 1, 999, 1_000, 1_001, u16::MAX])),
+    }
+}
+
+/// The limit of the first record at an end of its range, outside of it or looked up, the two bytes after it small or as they come,
+/// and at times the other category.
+fn other_limit(random: &mut Random, sheet: &mut [u8]) {
+    if random.chance(10) {
+        sheet[1] = random.pick(&[M1, N1]);
+    }
+    if random.chance(80) {
+        put(sheet, 14, random.pick(&[0, 0, 0, 0, 1, 49, 50, 100, 101, 256]));
+    }
+    match random.below(8) {
+        0 => sheet[16] = random.next() as u8,
+        1 => sheet[17] = random.next() as u8,
+        2 => {}
+        _ => sheet[16..18].copy_from_slice(&[random.below(5) as u8, random.below(3) as u8]),
     }
 }
 

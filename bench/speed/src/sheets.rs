@@ -1,6 +1,8 @@
-//! Sheets by named fields (document 01, "The sheet"; document 02, wish 8).
+//! Sheets by named fields (document 01, "The sheet"; document 02, wishes 1 and 8).
 
 pub const RECORD: usize = 32;
+pub const M1: u8 = 1;
+pub const N1: u8 = 2;
 pub const ACCELERATION: u8 = 2;
 pub const CONSTANT: u8 = 3;
 
@@ -17,35 +19,46 @@ pub struct Backgrounds {
     pub right: u16,
 }
 
+/// The limit in whole dB(A), or 0 if it is looked up by the two bytes, which are zero otherwise.
+#[derive(Clone, Copy)]
+pub struct Limit {
+    pub written: u16,
+    pub phase: u8,
+    pub low_car: u8,
+}
+
 pub struct Vehicle {
+    pub category: u8,
     pub start_line: u8,
     pub power: u16,
     pub mass: u16,
     pub length: u16,
     pub rated_speed: u16,
     pub before: Backgrounds,
-    pub limit: u16,
+    pub limit: Limit,
 }
 
 /// The vehicle of document 01's whole sheet.
 pub const WORKED: Vehicle = Vehicle {
+    category: M1,
     start_line: 0,
     power: 1000,
     mass: 1500,
     length: 450,
     rated_speed: 6000,
     before: Backgrounds { left: 400, right: 0 },
-    limit: 72,
+    limit: Limit { written: 72, phase: 0, low_car: 0 },
 };
 
 impl Vehicle {
     pub fn record(&self) -> Record {
         let mut record = [0; RECORD];
-        record[..3].copy_from_slice(&[1, 1, self.start_line]);
-        let numbers = [self.power, self.mass, self.length, self.rated_speed, self.before.left, self.limit];
+        record[..3].copy_from_slice(&[1, self.category, self.start_line]);
+        let numbers = [self.power, self.mass, self.length, self.rated_speed, self.before.left, self.limit.written];
         for (place, number) in record[4..16].chunks_exact_mut(2).zip(numbers) {
             put(place, 0, number);
         }
+        record[16..18].copy_from_slice(&[self.limit.phase, self.limit.low_car]);
         put(&mut record, 18, self.before.right);
         record
     }

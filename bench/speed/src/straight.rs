@@ -34,7 +34,8 @@ pub fn evaluate(sheet: &[u8], result: &mut [u8]) -> Result<(), Refusal> {
     if !is_closing(closing) {
         return Err((5, last as u32));
     }
-    *record = groups.evaluate(vehicle)?;
+    let limit = Limit::of(vehicle)?;
+    *record = groups.evaluate(vehicle, limit)?;
     Ok(())
 }
 
@@ -55,8 +56,11 @@ fn is_vehicle(record: &Record) -> bool {
         && (100..=2_000).contains(&number(record, 8))
         && (500..=20_000).contains(&number(record, 10))
         && number(record, 12) <= 1_000
-        && (50..=100).contains(&number(record, 14))
-        && record[16..18] == [0; 2]
+        && match number(record, 14) {
+            0 => true,
+            50..=100 => record[16..18] == [0; 2],
+            _ => false,
+        }
         && number(record, 18) <= 1_000
         && record[20..] == [0; 12]
 }
@@ -105,6 +109,40 @@ impl Backgrounds {
     fn in_record(record: &Record, left: usize, right: usize) -> Backgrounds {
         let [left, right] = [left, right].map(|at| number(record, at).into());
         Backgrounds { left, right: if right == 0 { left } else { right } }
+    }
+}
+
+/// The limit that is written, or what it is looked up by, beside the PMR.
+enum Limit {
+    Written(u32),
+    LookedUp { phase: u8, is_low_car: bool },
+}
+
+impl Limit {
+    /// Refusals 11 and 12, or the limit of a vehicle record without a fault.
+    fn of(vehicle: &Record) -> Result<Limit, Refusal> {
+        match (number(vehicle, 14), vehicle[1], vehicle[16], vehicle[17]) {
+            (0, 2, _, _) => Err((11, 0)),
+            (0, _, phase @ 1..=3, low_car @ 0..=1) => Ok(Limit::LookedUp { phase, is_low_car: low_car == 1 }),
+            (0, _, _, _) => Err((12, 0)),
+            (written, _, _, _) => Ok(Limit::Written(written.into())),
+        }
+    }
+
+    /// The limit in whole dB(A), by the PMR in tenths.
+    fn found(&self, pmr: u32) -> u32 {
+        match *self {
+            Limit::Written(limit) => limit,
+            Limit::LookedUp { phase, is_low_car } => {
+                let by_phase = match pmr {
+                    0..=1200 => [72, 70, 68],
+                    1201..=1600 => [73, 71, 69],
+                    2001.. if is_low_car => [75, 74, 72],
+                    _ => [75, 73, 71],
+                };
+                by_phase[usize::from(phase) - 1]
+            }
+        }
     }
 }
 
@@ -219,7 +257,7 @@ impl Groups {
         Ok(groups)
     }
 
-    fn evaluate(&self, vehicle: &Record) -> Result<Record, Refusal> {
+    fn evaluate(&self, vehicle: &Record, limit: Limit) -> Result<Record, Refusal> {
         let pmr = rounded(1000 * u32::from(number(vehicle, 4)), u32::from(number(vehicle, 6)));
         if !(50..=6000).contains(&pmr) {
             return Err((6, 0));
@@ -242,7 +280,7 @@ impl Groups {
             }
         };
         let (kp, l_urban) = l_urban(pmr, w, c, urban, a);
-        let passes = l_urban <= number(vehicle, 14).into();
+        let passes = l_urban <= limit.found(pmr);
         let mut record = [0; RECORD];
         let j = j.map_or(0, |gear| gear.number);
         record[..6].copy_from_slice(&[rule, i.number, j, k as u8, kp as u8, passes.into()]);

@@ -5,31 +5,42 @@ use mathlib.Core.List.{List}
 use Prim.Native.Nat.{ℕ, _+_, _-_, _≤_, _<_}
 use lib.ListN.{length}
 use borrow.Author.Tests.{lt-ltb, le-ltb}
+use Rattle.refusal.specs.declared.Refusal.{Refusal}
 use Rattle.refusal.specs.declared.Refusal.the-variants as refusal
 use Rattle.record.specs.declared.Backgrounds.{Backgrounds}
 use Rattle.record.specs.declared.Vehicle.{Vehicle}
 use Rattle.record.specs.declared.Closing.{Closing}
-use Rattle.sheet.specs.declared.Examination.the-variants.{Whole}
+use Rattle.sheet.specs.declared.Examination.the-variants as examination
 use Rattle.sheet.specs.Sheet.{examined, anyAcceleration}
 use Rattle.sheet.proofs.Examinations.{whole}
 use Rattle.window.specs.declared.Four.{Four}
 use Rattle.valid_runs.specs.ValidRuns.{backgroundsOf}
 use Rattle.reference.specs.declared.Reference.{Reference}
 use Rattle.reference.specs.Reference.{pmrOf, referenceAt}
+use Rattle.limit.specs.declared.Limit.{Limit}
+use Rattle.limit.specs.Limits.{limitOf}
 use Rattle.gears.specs.declared.Gear.{Gear}
 use Rattle.gears.specs.Rules.{gearAt, firstNotFalling, choiceOf}
 use Rattle.session.specs.Session.{Session, sessionOf, lowestNoWindow, gearsOf, windowsOf}
 use Rattle.decision.specs.declared.Decision.the-variants.{Refused}
-use Rattle.decision.specs.Decision.{outOfRange, selectedIn, finishBy, decideGears, decideWhole, trackOf, decideBy, decisionOver, sheetVehicle, sheetClosing, sheetBackgrounds, decisionOf}
+use Rattle.decision.specs.Decision.{outOfRange, selectedIn, finishBy, decideGears, decideWhole, trackOf, decideLimited, decideBy, decisionOver, sheetVehicle, sheetClosing, sheetBackgrounds, pmrIn, sheetLimit, decisionOf}
+
+-- ---- rows 2 to 5
+
+pub of-examination : (s : List ℕ) (r : Refusal) → examined s ≡ examination.Refused r → decisionOf s ≡ Refused r
+unfolding decisionOf decisionOver decideBy
+of-examination s r e = ap (decideBy (sheetBackgrounds s) (sheetLimit s) s) e
 
 -- ---- a whole sheet
 
-pub decision-is : (s : List ℕ) (v : Vehicle) (z : Closing) → examined s ≡ Whole v z → decisionOf s ≡ decideWhole (sessionOf s (trackOf (backgroundsOf (v .backgrounds) (z .backgrounds)) v)) (pmrOf (v .power) (v .mass)) (v .limit)
-unfolding decisionOf decisionOver decideBy sheetVehicle sheetClosing sheetBackgrounds
+pub decision-is :
+    (s : List ℕ) (v : Vehicle) (z : Closing) → examined s ≡ examination.Whole v z → decisionOf s ≡ decideLimited (sessionOf s (trackOf (backgroundsOf (v .backgrounds) (z .backgrounds)) v)) (pmrOf (v .power) (v .mass)) (limitOf v (pmrOf (v .power) (v .mass)))
+unfolding decisionOf decisionOver decideBy sheetVehicle sheetClosing sheetBackgrounds pmrIn sheetLimit
 decision-is s v z e =
     let w = whole s v z e in
-    let same : sheetBackgrounds s ≡ backgroundsOf (v .backgrounds) (z .backgrounds) = sym (ap₂ (λ (x : Vehicle) (y : Closing). backgroundsOf (x .backgrounds) (y .backgrounds)) (w .vehicle-is) (w .closing-is)) in
-    ap (decideBy (sheetBackgrounds s) s) e ∙ ap (λ (b : Backgrounds). decideWhole (sessionOf s (trackOf b v)) (pmrOf (v .power) (v .mass)) (v .limit)) same
+    let backgrounds : sheetBackgrounds s ≡ backgroundsOf (v .backgrounds) (z .backgrounds) = sym (ap₂ (λ (x : Vehicle) (y : Closing). backgroundsOf (x .backgrounds) (y .backgrounds)) (w .vehicle-is) (w .closing-is)) in
+    let limit : sheetLimit s ≡ limitOf v (pmrOf (v .power) (v .mass)) = sym (ap (λ (x : Vehicle). limitOf x (pmrOf (x .power) (x .mass))) (w .vehicle-is)) in
+    ap (decideBy (sheetBackgrounds s) (sheetLimit s) s) e ∙ ap₂ (λ (b : Backgrounds) (l : Limit). decideLimited (sessionOf s (trackOf b v)) (pmrOf (v .power) (v .mass)) l) backgrounds limit
 
 -- ---- rows 6 and 7
 

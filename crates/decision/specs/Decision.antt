@@ -1,5 +1,6 @@
--- What is decided for a byte string (document 01, "Refusals and what remains"): the first refusal of the table whose cause holds, or the fields
--- of the result. Rows 2 to 5 are the sheet's, rows 6 to 10 are here; row 1 is the evaluation's.
+-- What is decided for a byte string (document 01, "Refusals and what remains"; document 02, wish 1): the first refusal of the table whose cause
+-- holds, or the fields of the result and the limit found. Rows 2 to 5 are the sheet's, rows 11 and 12, which follow them, the limit's; rows 6 to 10
+-- are here; row 1 is the evaluation's.
 use mathlib.Core.Bool.{Bool, cond, not, _||_}
 use mathlib.Core.List.{List}
 use Prim.Native.Nat.{ℕ, _+_, _-_}
@@ -12,7 +13,7 @@ use Rattle.record.specs.declared.Closing.{Closing}
 use Rattle.record.specs.Records.{recordAt, vehicleIn, pathOf, closingIn}
 use Rattle.sheet.specs.declared.Examination.{Examination}
 use Rattle.sheet.specs.declared.Examination.the-variants as examination
-use Rattle.sheet.specs.Sheet.{lastOf, examined, anyAcceleration}
+use Rattle.sheet.specs.Sheet.{lastOf, Layouts, examinedBy, layouts, anyAcceleration}
 use Rattle.window.specs.declared.Four.{Four}
 use Rattle.window.specs.declared.Window.{Window}
 use Rattle.window.specs.declared.Window.the-variants as window
@@ -20,6 +21,9 @@ use Rattle.window.specs.Windows.{emptyFour}
 use Rattle.valid_runs.specs.ValidRuns.{backgroundsOf}
 use Rattle.reference.specs.declared.Reference.{Reference}
 use Rattle.reference.specs.Reference.{pmrOf, referenceAt}
+use Rattle.limit.specs.declared.Limit.{Limit}
+use Rattle.limit.specs.declared.Limit.the-variants as limits
+use Rattle.limit.specs.Limits.{limitOf}
 use Rattle.gears.specs.declared.Gear.{Gear}
 use Rattle.gears.specs.declared.Choice.{Choice}
 use Rattle.gears.specs.declared.Choice.the-variants as choice
@@ -79,10 +83,10 @@ Straddling r (selection.Chosen c) = Straddled r c
 
 -- ---- the rows in order
 
--- the result of what was selected, against a limit
+-- the result of what was selected, against a limit, which is handed on with it
 unfoldable pub finishBy : Reference → ℕ → Selection → Decision
 finishBy r limit (selection.Refused x) = Refused x
-finishBy r limit (selection.Chosen c) = Result (outcomeOf r limit (basisOf r c))
+finishBy r limit (selection.Chosen c) = Result (outcomeOf r limit (basisOf r c)) limit
 
 -- Rows 8 to 10, over the remaining gears and their acceleration windows: neighbours that do not fall, no rule, no constant-speed window.
 unfoldable pub decideGears : Reference → ℕ → Session → List Gear → List Four → Decision
@@ -90,7 +94,7 @@ decideGears r limit t gs ws =
     cond (ltb (firstNotFalling gs) (length gs - 1)) (Refused (refusal.NotFalling (gearAt gs (firstNotFalling gs) .number)))
     (finishBy r limit (selectedIn t gs ws (choiceOf r gs)))
 
--- rows 6 to 10, for a whole sheet of PMR q (in tenths)
+-- rows 6 to 10, for a whole sheet of PMR q (in tenths) and a limit
 unfoldable pub decideWhole : Session → ℕ → ℕ → Decision
 decideWhole t q limit =
     cond (outOfRange q) (Refused refusal.PmrOutOfRange)
@@ -98,18 +102,23 @@ decideWhole t q limit =
     (cond (ltb (lowestNoWindow t) 16) (Refused (refusal.NoWindow (lowestNoWindow t + 1)))
     (decideGears (referenceAt q) limit t (gearsOf t) (windowsOf t))))
 
+-- rows 11 and 12 are the limit's
+unfoldable pub decideLimited : Session → ℕ → Limit → Decision
+decideLimited t q (limits.Refused x) = Refused x
+decideLimited t q (limits.Found n) = decideWhole t q n
+
 -- what a whole sheet is evaluated by over these backgrounds
 unfoldable pub trackOf : Backgrounds → Vehicle → Track
 trackOf b v = record { backgrounds = b; rated = v .«rated_speed»; path = pathOf v }
 
--- rows 2 to 5 are the examination's; the closing record would give nothing but its backgrounds, and those are given as b
-unfoldable pub decideBy : Backgrounds → List ℕ → Examination → Decision
-decideBy b s (examination.Refused x) = Refused x
-decideBy b s (examination.Whole v z) = decideWhole (sessionOf s (trackOf b v)) (pmrOf (v .power) (v .mass)) (v .limit)
+-- rows 2 to 5 are the examination's; backgrounds and limit are given, so nothing more is read of the closing record
+unfoldable pub decideBy : Backgrounds → Limit → List ℕ → Examination → Decision
+decideBy b l s (examination.Refused x) = Refused x
+decideBy b l s (examination.Whole v z) = decideLimited (sessionOf s (trackOf b v)) (pmrOf (v .power) (v .mass)) l
 
--- what is decided for a byte string over these backgrounds
-unfoldable pub decisionOver : Backgrounds → List ℕ → Decision
-decisionOver b s = decideBy b s (examined s)
+-- what is decided for a byte string by these layouts, over these backgrounds and with this limit
+unfoldable pub decisionOver : Layouts → Backgrounds → Limit → List ℕ → Decision
+decisionOver y b l s = decideBy b l s (examinedBy y s)
 
 -- ---- what the rules decide on, of the bytes themselves
 
@@ -124,15 +133,19 @@ sheetClosing s = closingIn (recordAt s (lastOf s))
 unfoldable pub sheetBackgrounds : List ℕ → Backgrounds
 sheetBackgrounds s = backgroundsOf (sheetVehicle s .backgrounds) (sheetClosing s .backgrounds)
 
--- what is decided for a byte string: over the backgrounds that its own records give
+unfoldable pub pmrIn : List ℕ → ℕ
+pmrIn s = pmrOf (sheetVehicle s .power) (sheetVehicle s .mass)
+
+-- the limit found, or row 11 or 12
+unfoldable pub sheetLimit : List ℕ → Limit
+sheetLimit s = limitOf (sheetVehicle s) (pmrIn s)
+
+-- what is decided for a byte string: over the backgrounds and with the limit that its own records give
 unfoldable pub decisionOf : List ℕ → Decision
-decisionOf s = decisionOver (sheetBackgrounds s) s
+decisionOf s = decisionOver layouts (sheetBackgrounds s) (sheetLimit s) s
 
 unfoldable pub sheetSession : List ℕ → Session
 sheetSession s = sessionOf s (trackOf (sheetBackgrounds s) (sheetVehicle s))
-
-unfoldable pub pmrIn : List ℕ → ℕ
-pmrIn s = pmrOf (sheetVehicle s .power) (sheetVehicle s .mass)
 
 -- PMR, a_urban and a_ref
 unfoldable pub referenceIn : List ℕ → Reference

@@ -1,7 +1,8 @@
-// What is decided for a byte string: the first refusal of the table whose cause holds (rows 2 to 10), or the fields of the result. No buffer is
-// known here.
+// What is decided for a byte string: the first refusal of the table whose cause holds (row 2 and those after it), or the fields of the result with
+// the limit found. No buffer is known here.
 use gears::Choice;
 use gears::Gear;
+use limit::Limit;
 use record::Closing;
 use record::Record;
 use record::Vehicle;
@@ -23,7 +24,7 @@ ghost use Rattle.sheet.specs.Sheet.{examined, RunsGood};
 ghost use Rattle.valid_runs.specs.ValidRuns.{backgroundsOf};
 ghost use Rattle.gears.specs.Rules.{Inside};
 ghost use Rattle.session.specs.Session.{sessionOf, windowIn, gearsIn, windowsIn};
-ghost use Rattle.decision.specs.Decision.{measuredBy, measuredAt, oneOf, pairOf, selectedIn, Straddling, finishBy, decideGears, trackOf, decisionOf};
+ghost use Rattle.decision.specs.Decision.{measuredBy, measuredAt, oneOf, pairOf, selectedIn, Straddling, finishBy, decideGears, decideWhole, trackOf, decisionOf};
 
 // A gear with both its windows, or the refusal if it has no constant-speed window.
 pub enum Measured {
@@ -37,9 +38,9 @@ pub enum Selection {
     Refused(Refusal),
 }
 
-// What is decided for a sheet.
+// What is decided for a sheet: the fields of the result and the limit that L_urban was judged against, in whole dB(A), or a refusal.
 pub enum Decision {
-    Result(Outcome),
+    Result(Outcome, u16),
     Refused(Refusal),
 }
 
@@ -116,11 +117,10 @@ fn finish_with(reference: Reference, limit: u16, selection: Selection) -> Decisi
     ensures { λ r. ⌜ r ≡ finishBy reference limit selection ⌝ }
 {
     match selection {
-        Selection::Chosen(chosen) => Decision::Result(urban::outcome_of(
-            reference,
-            limit,
-            urban::basis_of(reference, chosen),
-        )),
+        Selection::Chosen(chosen) => {
+            let basis = urban::basis_of(reference, chosen);
+            Decision::Result(urban::outcome_of(reference, limit, basis), limit)
+        }
         Selection::Refused(x) => Decision::Refused(x),
     }
 }
@@ -161,25 +161,36 @@ fn track_of(v: Vehicle, z: Closing) -> Track
     }
 }
 
-// Rows 6 to 10, for a whole sheet.
-fn decide_whole(sheet: &[u8], v: Vehicle, z: Closing) -> Decision
-    requires { ⌜ examined (now sheet) ≡ Whole v z ⌝ }
-    ensures { λ r. ⌜ r ≡ decisionOf (now (sheet .entry)) ⌝ }
+// Rows 6 to 10, for a whole sheet of this PMR, in tenths, and a limit.
+fn decide_whole(sheet: &[u8], track: Track, pmr: u32, limit: u16) -> Decision
+    requires { ⌜ RunsGood (now sheet) ⌝ }
+    requires { ⌜ (1000 ≤ track .path) × (track .path ≤ 4000) ⌝ }
+    ensures { λ r. ⌜ r ≡ decideWhole (sessionOf (now (sheet .entry)) track) pmr limit ⌝ }
 {
-    let pmr = reference::pmr(v.power, v.mass);
     if (pmr < 50) | (6000 < pmr) {
         return Decision::Refused(Refusal::PmrOutOfRange);
     }
     if !sheet::any_acceleration(sheet) {
         return Decision::Refused(Refusal::NoRun);
     }
-    let track = track_of(v, z);
     let table = session::table_of(sheet, track);
     if table.no_window < 16 {
         return Decision::Refused(Refusal::NoWindow((table.no_window + 1) as u8));
     }
     let reference = reference::reference_at(pmr as u16);
-    decide_table(sheet, track, reference, v.limit, table)
+    decide_table(sheet, track, reference, limit, table)
+}
+
+// Rows 11 and 12, then rows 6 to 10 with the limit found, for a whole sheet.
+fn decide_examined(sheet: &[u8], v: Vehicle, z: Closing) -> Decision
+    requires { ⌜ examined (now sheet) ≡ Whole v z ⌝ }
+    ensures { λ r. ⌜ r ≡ decisionOf (now (sheet .entry)) ⌝ }
+{
+    let pmr = reference::pmr(v.power, v.mass);
+    match limit::limit_of(v, pmr) {
+        Limit::Found(limit) => decide_whole(sheet, track_of(v, z), pmr, limit),
+        Limit::Refused(x) => Decision::Refused(x),
+    }
 }
 
 // What is decided for any byte string.
@@ -187,7 +198,7 @@ pub fn decide(sheet: &[u8]) -> Decision
     ensures { λ r. ⌜ r ≡ decisionOf (now (sheet .entry)) ⌝ }
 {
     match sheet::examine(sheet) {
-        Examination::Whole(v, z) => decide_whole(sheet, v, z),
+        Examination::Whole(v, z) => decide_examined(sheet, v, z),
         Examination::Refused(x) => Decision::Refused(x),
     }
 }

@@ -7,7 +7,7 @@ use Rattle.reference.specs.Reference.{referenceAt}
 use Rattle.reference.proofs.References.{a-urban-the}
 use Rattle.urban.specs.declared.Outcome.{Outcome}
 use Rattle.decision.specs.declared.Decision.the-variants.{Result}
-use Rattle.decision.specs.Decision.{decisionOf, sheetVehicle, pmrIn, referenceIn}
+use Rattle.decision.specs.Decision.{decisionOf, pmrIn, referenceIn}
 use Rattle.decision.proofs.Results.{decided}
 use Rattle.figure.specs.Figure.{reported}
 use Rattle.figure.proofs.Close.{close}
@@ -18,8 +18,8 @@ positive : (s : List ℕ) → 50 ≤ pmrIn s → pmrIn s ≤ 6000 → 0 < refere
 unfolding referenceIn referenceAt
 positive s lo hi = omega (arith, a-urban-the (pmrIn s) lo hi .least)
 
-pub close-to : (s : List ℕ) (o : Outcome) → decisionOf s ≡ Result o → CloseTo s (o .«l_urban»)
+pub close-to : (s : List ℕ) (o : Outcome) (limit : ℕ) → decisionOf s ≡ Result o limit → CloseTo s (o .«l_urban»)
 unfolding CloseTo figureOf boundOf figureBy boundBy reported
-close-to s o e =
-    let d = decided s o e in
-    simp (d .chosen-is, ap (λ (x : Outcome). x .«l_urban») (d .is)) (close (referenceIn s) (d .chosen-gears) (sheetVehicle s .limit) (positive s (d .low) (d .high)) (d .straddled))
+close-to s o limit e =
+    let d = decided s o limit e in
+    simp (d .chosen-is, ap (λ (x : Outcome). x .«l_urban») (d .is)) (close (referenceIn s) (d .chosen-gears) limit (positive s (d .low) (d .high)) (d .straddled))

@@ -1,3 +1,4 @@
+pub mod Accepted
 pub mod Close
 pub mod InKeyOrder
 pub mod OnlyLevels
@@ -6,3 +7,4 @@ pub mod Rows
 pub mod SameRuns
 pub mod Verdicts
 pub mod EarlierSheets
+pub mod LimitFound

@@ -1,15 +1,11 @@
 -- A louder sheet has no lower L_urban. Assumes nothing.
 use mathlib.Core.Path.{_≡_, refl, sym, ap, _∙_}
-use mathlib.Core.Bool.{Bool, true, false, cond}
 use mathlib.Core.List.{List, [], _++_}
 use Prim.Native.Nat.{ℕ, _+_, _-_, _≤_, _<_}
 use native.Mathlib.Omega.{arith}
-use lib.Dec.{ltb}
 use lib.ListN.{length, getD, drop}
 use Rattle.units.proofs.Among.{listed}
 use Rattle.units.specs.Bytes.{number}
-use Rattle.refusal.specs.declared.Refusal.the-variants as refusal
-use Rattle.refusal.specs.declared.Answer.the-variants as answer
 use Rattle.record.specs.Records.{records}
 use Rattle.sheet.proofs.Examinations.{WholeSheet}
 use Rattle.window.specs.declared.ValidRun.{ValidRun}
@@ -28,7 +24,6 @@ use Rattle.urban.specs.declared.Chosen.{Chosen}
 use Rattle.urban.specs.declared.Chosen.the-variants.{One, Pair}
 use Rattle.urban.specs.declared.Outcome.{Outcome}
 use Rattle.result.proofs.Results.{at-ten}
-use Rattle.decision.specs.declared.Decision.{Decision}
 use Rattle.decision.specs.declared.Decision.the-variants as decision
 use Rattle.decision.specs.declared.Selection.the-variants as selection
 use Rattle.decision.specs.Decision.{decisionOf, sheetVehicle, sheetClosing, sheetSession, referenceIn, selectionIn}
@@ -36,8 +31,8 @@ use Rattle.decision.proofs.Selections.{IsMeasured, Measuring}
 use Rattle.decision.proofs.Results.{decided}
 use Rattle.figure.specs.Figure.{accelerating, constant, reported, GearNotLower, ChosenNotLower}
 use Rattle.figure.proofs.Rising.{rising}
-use Rattle.evaluation.specs.Answer.{answerBy, answerOf, bufferBy, bufferOf}
 use Rattle.evaluation.specs.Demand.{runsOf, chosenRunsBy, chosenRuns, NoneLower, RisesFrom}
+use Rattle.evaluation.proofs.Accepted.{reported-in}
 use Rattle.evaluation.proofs.SameRuns.{same-list}
 use Rattle.evaluation.proofs.OnlyLevels.{same-track, same-reference, run-rising}
 
@@ -121,34 +116,21 @@ module _ (s s′ : List ℕ) (n : NoneLower s s′) (w : WholeSheet s (sheetVehi
 
 -- ---- L_urban of both
 
-level-rising : (s s′ : List ℕ) (o o′ : Outcome) → decisionOf s ≡ decision.Result o → decisionOf s′ ≡ decision.Result o′ → NoneLower s s′ → o .«l_urban» ≤ o′ .«l_urban»
+level-rising : (s s′ : List ℕ) (o o′ : Outcome) (limit limit′ : ℕ) → decisionOf s ≡ decision.Result o limit → decisionOf s′ ≡ decision.Result o′ limit′ → NoneLower s s′ → o .«l_urban» ≤ o′ .«l_urban»
 unfolding reported
-level-rising s s′ o o′ e e′ n =
-    let d = decided s o e in
-    let d′ = decided s′ o′ e′ in
+level-rising s s′ o o′ limit limit′ e e′ n =
+    let d = decided s o limit e in
+    let d′ = decided s′ o′ limit′ e′ in
     let same : referenceIn s′ ≡ referenceIn s = sym (same-reference s s′ (n .only-levels) (sheetVehicle s) (sheetClosing s) (d .sheet)) in
-    let here : o .«l_urban» ≡ reported (referenceIn s) (d .chosen-gears) (sheetVehicle s .limit) = ap (λ (x : Outcome). x .«l_urban») (d .is) in
-    let there : o′ .«l_urban» ≡ reported (referenceIn s) (d′ .chosen-gears) (sheetVehicle s′ .limit) = ap (λ (x : Outcome). x .«l_urban») (d′ .is) ∙ ap (λ (r : Reference). reported r (d′ .chosen-gears) (sheetVehicle s′ .limit)) same in
-    let runs = same-list s s′ (n .only-levels) o o′ d d′ (n .same-runs) in
-    let rises = rising (referenceIn s) (d .chosen-gears) (d′ .chosen-gears) (sheetVehicle s .limit) (sheetVehicle s′ .limit) (d .straddled) (chosen-rising s s′ n (d .sheet) runs (d .chosen-gears) (d′ .chosen-gears) (d .chosen-is) (d′ .chosen-is) (d .measured) (d′ .measured)) in
+    let here : o .«l_urban» ≡ reported (referenceIn s) (d .chosen-gears) limit = ap (λ (x : Outcome). x .«l_urban») (d .is) in
+    let there : o′ .«l_urban» ≡ reported (referenceIn s) (d′ .chosen-gears) limit′ = ap (λ (x : Outcome). x .«l_urban») (d′ .is) ∙ ap (λ (r : Reference). reported r (d′ .chosen-gears) limit′) same in
+    let runs = same-list s s′ (n .only-levels) o o′ limit limit′ d d′ (n .same-runs) in
+    let rises = rising (referenceIn s) (d .chosen-gears) (d′ .chosen-gears) limit limit′ (d .straddled) (chosen-rising s s′ n (d .sheet) runs (d .chosen-gears) (d′ .chosen-gears) (d .chosen-is) (d′ .chosen-is) (d .measured) (d′ .measured)) in
     omega (arith, here, there, rises)
 
--- an accepted sheet decides on a result, whose L_urban stands at byte 10
-record ReportedIn (s b : List ℕ) : Type 0 where
-  outcome : Outcome
-  decides : decisionOf s ≡ decision.Result outcome
-  at : number (bufferOf s b) 10 2 ≡ outcome .«l_urban»
-
-reported-in : (s b : List ℕ) → answerOf s (length b) ≡ answer.Accepted → ReportedIn s b
-unfolding answerOf bufferOf answerBy bufferBy
-reported-in s b a = by (ltb (length b) 32) (decisionOf s) refl refl a
-  where
-    by : (t : Bool) (d : Decision) → ltb (length b) 32 ≡ t → decisionOf s ≡ d → cond t (answer.Refused refusal.ShortBuffer) (answerBy d) ≡ answer.Accepted → ReportedIn s b
-    by true d e f k = absurd (let z : _≡_ {A = ℕ} 0 1 = cc in omega arith)
-    by false (decision.Refused r) e f k = absurd (let z : _≡_ {A = ℕ} 0 1 = cc in omega arith)
-    by false (decision.Result o) e f k = record { outcome = o; decides = f; at = rw (e, f) (at-ten o (drop 32 b)) }
-
--- Rising, for every sheet that decides on a result
-pub rises-from : (s : List ℕ) (o : Outcome) → decisionOf s ≡ decision.Result o → RisesFrom s (o .«l_urban»)
+-- Rising, for every sheet that decides on a result; that of the other sheet stands at byte 10
+pub rises-from : (s : List ℕ) (o : Outcome) (limit : ℕ) → decisionOf s ≡ decision.Result o limit → RisesFrom s (o .«l_urban»)
 unfolding RisesFrom
-rises-from s o e s′ b a n = let r = reported-in s′ b a in rw (r .at) (level-rising s s′ o (r .outcome) e (r .decides) n)
+rises-from s o limit e s′ b a n =
+    let r = reported-in s′ b a in
+    rw (r .bytes, at-ten (r .outcome) (drop 32 b)) (level-rising s s′ o (r .outcome) limit (r .limit) e (r .decides) n)

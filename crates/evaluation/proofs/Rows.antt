@@ -16,14 +16,18 @@ use Rattle.refusal.specs.declared.Refusal.the-variants as refusal
 use Rattle.refusal.specs.declared.Answer.{Answer}
 use Rattle.refusal.specs.declared.Answer.the-variants as answer
 use Rattle.refusal.specs.Refusal.{numberOf, placeOf, answerNumber, answerPlace}
+use Rattle.refusal.proofs.Numbers.{accepted-by-0}
 use Rattle.record.specs.Records.{records}
 use Rattle.sheet.specs.declared.Examination.{Examination}
 use Rattle.sheet.specs.declared.Examination.the-variants as examination
-use Rattle.sheet.specs.Sheet.{wrongSize, noVehicle, noClosing, lowestBroken, examined, anyAcceleration}
+use Rattle.sheet.specs.Sheet.{wrongSize, noVehicle, noClosing, lowestBroken, examinedBy, examined, anyAcceleration}
 use Rattle.window.specs.declared.Four.{Four}
 use Rattle.window.specs.declared.Window.{Window}
 use Rattle.window.specs.declared.Window.the-variants as window
 use Rattle.reference.specs.declared.Reference.{Reference}
+use Rattle.limit.specs.declared.Limit.{Limit}
+use Rattle.limit.specs.declared.Limit.the-variants as limits
+use Rattle.limit.specs.Limits.{noLimitForN1, noLimitEntry, limitOf}
 use Rattle.gears.specs.declared.Gear.{Gear}
 use Rattle.gears.specs.declared.Choice.{Choice}
 use Rattle.gears.specs.declared.Choice.the-variants as choice
@@ -31,7 +35,7 @@ use Rattle.gears.specs.Rules.{firstNotFalling}
 use Rattle.session.specs.Session.{Session, lowestNoWindow, gearsOf, windowsOf}
 use Rattle.decision.specs.declared.Decision.{Decision}
 use Rattle.decision.specs.declared.Decision.the-variants as decision
-use Rattle.decision.specs.Decision.{outOfRange, measuredBy, measuredAt, oneOf, pairOf, selectedIn, finishBy, decideGears, decideWhole, decideBy, decisionOver, sheetVehicle, sheetClosing, sheetBackgrounds, decisionOf, sheetSession, pmrIn, referenceIn, choiceIn}
+use Rattle.decision.specs.Decision.{outOfRange, measuredBy, measuredAt, oneOf, pairOf, selectedIn, finishBy, decideGears, decideWhole, decideLimited, decideBy, decisionOver, sheetVehicle, sheetClosing, sheetBackgrounds, pmrIn, sheetLimit, decisionOf, sheetSession, referenceIn, choiceIn}
 use Rattle.evaluation.specs.Answer.{answerBy, answerOf}
 use Rattle.evaluation.specs.Rows.{Row, undecided, missing, noConstant, lowestNoConstant, rows, emptyRow, First, None}
 
@@ -133,27 +137,40 @@ module _ (r : Reference) (limit : ℕ) where
   after-choice t choice.Nothing = refl
 
 module _ (s : List ℕ) (size : ℕ) where
-  whole : decided (decideWhole (sheetSession s) (pmrIn s) (sheetVehicle s .limit)) ≡ first (drop 5 (rows s size))
+  whole : (limit : ℕ) → decided (decideWhole (sheetSession s) (pmrIn s) limit) ≡ first (drop 7 (rows s size))
   unfolding decideWhole decideGears sheetSession rows choiceIn referenceIn first
-  whole =
+  whole limit =
       step decided (outOfRange (pmrIn s)) _ _ _ _ (of-refusal refusal.PmrOutOfRange)
       (step decided (not (anyAcceleration s)) _ _ _ _ (of-refusal refusal.NoRun)
       (step decided (ltb (lowestNoWindow (sheetSession s)) 16) _ _ _ _ (of-refusal (refusal.NoWindow _))
-      (step decided (ltb (firstNotFalling (gearsOf (sheetSession s))) (length (gearsOf (sheetSession s)) - 1)) _ _ _ _ (of-refusal (refusal.NotFalling _)) (after-choice (referenceIn s) (sheetVehicle s .limit) (sheetSession s) (choiceIn s)))))
+      (step decided (ltb (firstNotFalling (gearsOf (sheetSession s))) (length (gearsOf (sheetSession s)) - 1)) _ _ _ _ (of-refusal (refusal.NotFalling _)) (after-choice (referenceIn s) limit (sheetSession s) (choiceIn s)))))
+
+  with-limit : Limit → Told
+  with-limit l = decided (decideLimited (sheetSession s) (pmrIn s) l)
+
+  without-limit : (r : Refusal) → with-limit (limits.Refused r) ≡ told (numberOf r) (placeOf r)
+  unfolding with-limit decideLimited
+  without-limit r = of-refusal r
+
+  limited : with-limit (sheetLimit s) ≡ first (drop 5 (rows s size))
+  unfolding with-limit decideLimited sheetLimit limitOf rows first
+  limited =
+      step with-limit (noLimitForN1 (sheetVehicle s)) _ _ _ _ (without-limit refusal.NoLimitForN1)
+      (step with-limit (noLimitEntry (sheetVehicle s)) _ _ _ _ (without-limit refusal.NoLimitEntry) (whole _))
 
   of : Examination → Told
-  of e = decided (decideBy (sheetBackgrounds s) s e)
+  of e = decided (decideBy (sheetBackgrounds s) (sheetLimit s) s e)
 
   of-refused : (r : Refusal) → of (examination.Refused r) ≡ told (numberOf r) (placeOf r)
   unfolding of decideBy
   of-refused r = of-refusal r
 
   of-whole : of (examination.Whole (sheetVehicle s) (sheetClosing s)) ≡ first (drop 5 (rows s size))
-  unfolding of decideBy sheetSession pmrIn
-  of-whole = whole
+  unfolding of decideBy sheetSession pmrIn with-limit
+  of-whole = limited
 
   of-examined : of (examined s) ≡ first (drop 1 (rows s size))
-  unfolding examined sheetVehicle sheetClosing rows first
+  unfolding examinedBy sheetVehicle sheetClosing rows first
   of-examined =
       step of (wrongSize s) _ _ _ _ (of-refused refusal.WrongSize)
       (step of (noVehicle s) _ _ _ _ (of-refused refusal.NoVehicle)
@@ -163,7 +180,7 @@ module _ (s : List ℕ) (size : ℕ) where
   -- the answer tells the first row that holds
   tells-first : tells (answerOf s size) ≡ first (rows s size)
   unfolding answerOf decisionOf decisionOver of decided tells rows first
-  tells-first = step tells (ltb size 32) (answer.Refused refusal.ShortBuffer) (answerBy (decideBy (sheetBackgrounds s) s (examined s))) _ _ refl of-examined
+  tells-first = step tells (ltb size 32) (answer.Refused refusal.ShortBuffer) (answerBy (decideBy (sheetBackgrounds s) (sheetLimit s) s (examined s))) _ _ refl of-examined
 
   answered : Found (rows s size) (tells (answerOf s size))
   answered = rw tells-first (found (rows s size))
@@ -191,23 +208,9 @@ module _ (s : List ℕ) (size : ℕ) where
   unfolding tells told
   accepted-without-cause none = by answered
     where
-      number-0 : (a : Answer) → answerNumber a ≡ 0 → a ≡ answer.Accepted
-      number-0 answer.Accepted e = refl
-      number-0 (answer.Refused refusal.ShortBuffer) e = absurd (omega arith)
-      number-0 (answer.Refused refusal.WrongSize) e = absurd (omega arith)
-      number-0 (answer.Refused refusal.NoVehicle) e = absurd (omega arith)
-      number-0 (answer.Refused (refusal.NoClosing n)) e = absurd (omega arith)
-      number-0 (answer.Refused (refusal.BrokenRecord n)) e = absurd (omega arith)
-      number-0 (answer.Refused refusal.PmrOutOfRange) e = absurd (omega arith)
-      number-0 (answer.Refused refusal.NoRun) e = absurd (omega arith)
-      number-0 (answer.Refused (refusal.NoWindow g)) e = absurd (omega arith)
-      number-0 (answer.Refused (refusal.NotFalling g)) e = absurd (omega arith)
-      number-0 (answer.Refused refusal.NoRule) e = absurd (omega arith)
-      number-0 (answer.Refused (refusal.NoConstantSpeed g)) e = absurd (omega arith)
-
       by : Found (rows s size) (tells (answerOf s size)) → answerOf s size ≡ answer.Accepted
       by (at g) = absurd (true≢false (sym (g .holds) ∙ none (g .at)))
-      by (never g z) = number-0 (answerOf s size) (ap (λ (t : Told). t .number) z)
+      by (never g z) = accepted-by-0 (answerOf s size) (ap (λ (t : Told). t .number) z)
 
   pub without-cause-if-accepted : answerOf s size ≡ answer.Accepted → None (rows s size)
   unfolding tells told rows

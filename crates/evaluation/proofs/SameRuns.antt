@@ -97,8 +97,8 @@ module _ (s s′ : List ℕ) (only : OnlyLevels s s′) where
       let inside : n < records s = omega (arith, same-records s s′ only) in
       ap₂ (λ (g : ℕ) (k : ℕ). 65536 * group g k + n) (same-before s s′ only n 1 inside (omega arith)) (same-before s s′ only n 0 inside (omega arith))
 
-  pub same-list : (o o′ : Outcome) → Decided s o → Decided s′ o′ → ((n : ℕ) → isChosen s n ≡ isChosen s′ n) → chosenRuns s ≡ chosenRuns s′
-  same-list o o′ d d′ same =
+  pub same-list : (o o′ : Outcome) (limit limit′ : ℕ) → Decided s o limit → Decided s′ o′ limit′ → ((n : ℕ) → isChosen s n ≡ isChosen s′ n) → chosenRuns s ≡ chosenRuns s′
+  same-list o o′ limit limit′ d d′ same =
       one-list (key s) 0 (chosenRuns s) (chosenRuns s′)
       (runs-rise (key s) s (few-records s (d .sheet)) (λ n h. refl) (d .chosen-gears) (d .chosen-is) (d .measured))
       (runs-rise (key s) s′ (few-records s′ (d′ .sheet)) same-key (d′ .chosen-gears) (d′ .chosen-is) (d′ .measured))

@@ -29,7 +29,7 @@ not-both s size a r = let e : answer.Accepted ≡ answer.Refused (r .refusal) = 
 
 pub no-l-urban : (s : List ℕ) (r : Refusal) (level : ℕ) → decisionOf s ≡ decision.Refused r → HasLUrban s level → ⊥
 no-l-urban s r level e h =
-    let same : decision.Refused r ≡ decision.Result (h .outcome) = sym e ∙ h .decided in
+    let same : decision.Refused r ≡ decision.Result (h .outcome) (h .limit) = sym e ∙ h .decided in
     absurd (let z : _≡_ {A = ℕ} 0 1 = cc in omega arith)
 
 pub buffer-kept : (s b : List ℕ) → IsRefused s (length b) → bufferOf s b ≡ b
@@ -39,4 +39,4 @@ buffer-kept s b r = by (ltb (length b) 32) (decisionOf s) (r .is)
     by : (t : Bool) (d : Decision) → cond t (answer.Refused refusal.ShortBuffer) (answerBy d) ≡ answer.Refused (r .refusal) → cond t b (bufferBy d b) ≡ b
     by true d e = refl
     by false (decision.Refused x) e = refl
-    by false (decision.Result o) e = absurd (let z : _≡_ {A = ℕ} 0 1 = cc in omega arith)
+    by false (decision.Result o limit) e = absurd (let z : _≡_ {A = ℕ} 0 1 = cc in omega arith)

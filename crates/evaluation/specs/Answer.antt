@@ -17,7 +17,7 @@ use Rattle.decision.specs.Decision.{decisionOf}
 
 unfoldable pub answerBy : Decision → Answer
 answerBy (decision.Refused r) = Refused r
-answerBy (decision.Result o) = Accepted
+answerBy (decision.Result o limit) = Accepted
 
 -- row 1: a buffer under 32 bytes; then the decision
 abbrev pub answerFor : Decision → ℕ → Answer
@@ -29,7 +29,7 @@ answerOf s size = answerFor (decisionOf s) size
 -- on a refusal the buffer stays as it was; on success the result stands in its first 32 bytes, and the others stay
 unfoldable pub bufferBy : Decision → List ℕ → List ℕ
 bufferBy (decision.Refused r) b = b
-bufferBy (decision.Result o) b = resultBytes o ++ drop 32 b
+bufferBy (decision.Result o limit) b = resultBytes o ++ drop 32 b
 
 abbrev pub bufferFor : Decision → List ℕ → List ℕ
 bufferFor d b = cond (ltb (length b) 32) b (bufferBy d b)
@@ -50,5 +50,6 @@ pub record IsRefused (s : List ℕ) (size : ℕ) : Type 0 where
 -- the decision for a sheet's bytes has this L_urban
 pub record HasLUrban (s : List ℕ) (level : ℕ) : Type 0 where
   pub outcome : Outcome
-  pub decided : decisionOf s ≡ decision.Result outcome
+  pub limit : ℕ
+  pub decided : decisionOf s ≡ decision.Result outcome limit
   pub is : outcome .«l_urban» ≡ level

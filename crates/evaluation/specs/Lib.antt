@@ -2,3 +2,4 @@ pub mod Answer
 pub mod Rows
 pub mod Demand
 pub mod EarlierSheets
+pub mod LimitFound

@@ -1,6 +1,6 @@
--- The table of refusals (document 01, "Refusals and what remains"), row by row in the order of checking, each a number, a cause and a place; and
--- what it is to be the first row whose cause holds. The rows from 6 on read the first and the last record as a vehicle and a closing record,
--- which they are where no row before holds.
+-- The table of refusals (document 01, "Refusals and what remains"; document 02, wish 1), row by row in the order of checking, each a number, a cause
+-- and a place; and what it is to be the first row whose cause holds. The numbers are not in order: rows 11 and 12 stand between 5 and 6. The rows
+-- after 5 read the first and the last record as a vehicle and a closing record, which they are where no row before holds.
 use mathlib.Core.Path.{_≡_}
 use mathlib.Core.Bool.{Bool, true, false, cond, not, _||_}
 use mathlib.Core.List.{List, [], _∷_}
@@ -11,11 +11,12 @@ use Rattle.record.specs.Records.{records}
 use Rattle.sheet.specs.Sheet.{lastOf, wrongSize, noVehicle, noClosing, lowestBroken, anyAcceleration}
 use Rattle.window.specs.declared.Window.{Window}
 use Rattle.window.specs.declared.Window.the-variants as window
+use Rattle.limit.specs.Limits.{noLimitForN1, noLimitEntry}
 use Rattle.gears.specs.declared.Choice.{Choice}
 use Rattle.gears.specs.declared.Choice.the-variants as choice
 use Rattle.gears.specs.Rules.{gearAt, firstNotFalling}
 use Rattle.session.specs.Session.{Session, windowIn, lowestNoWindow, gearsOf}
-use Rattle.decision.specs.Decision.{outOfRange, sheetSession, pmrIn, choiceIn}
+use Rattle.decision.specs.Decision.{outOfRange, sheetVehicle, sheetSession, pmrIn, choiceIn}
 
 pub record Row : Type 0 where
   pub number : ℕ
@@ -68,6 +69,9 @@ rows s size =
     ∷ row 3 (noVehicle s) 0
     ∷ row 4 (noClosing s) (lastOf s)
     ∷ row 5 (ltb (lowestBroken s) (records s)) (lowestBroken s)
+    -- limit 0 with N1; limit 0 with a phase outside 1 to 3 or a byte 17 above 1
+    ∷ row 11 (noLimitForN1 (sheetVehicle s)) 0
+    ∷ row 12 (noLimitEntry (sheetVehicle s)) 0
     ∷ row 6 (outOfRange (pmrIn s)) 0
     -- no acceleration run, or a gear with one and no window
     ∷ row 7 (not (anyAcceleration s)) 0

@@ -21,7 +21,7 @@ pub fn evaluate(sheet: &[u8], result: &mut [u8]) -> Answer
     }
     match decision::decide(sheet) {
         Decision::Refused(r) => Answer::Refused(r),
-        Decision::Result(o) => {
+        Decision::Result(o, _) => {
             result::write(o, result);
             Answer::Accepted
         }

@@ -1,41 +1,41 @@
--- What the definitions give for the examples, for the runs that the worked sheet chooses, for a louder sheet, and for the worked sheet with one
--- background: one test, computed once. Assumes nothing.
+-- What the definitions give for the examples, for the runs that the worked sheet chooses, for a louder sheet, and for the worked sheet without
+-- wishes 1 and 8: one test, computed once. Assumes nothing.
 use mathlib.Core.Path.{_≡_, refl, ap₂}
-use mathlib.Core.Bool.{Bool, true, false, not, _&&_}
+use mathlib.Core.Bool.{Bool, true, false, _&&_}
 use mathlib.Core.List.{List, [], _∷_, map}
 use Prim.Native.Nat.{ℕ}
 use lib.Dec.{T, eqb, eqb→eq}
 use lib.Ieee.Fits.{and-l, and-r}
 use lib.Ieee.{ofBits}
-use lib.Ieee.Bits.{is-true}
 use lib.ListN.{getD}
 use lib.Seq.{sets}
-use borrow.Author.Tests.{not-true}
 use Rattle.units.specs.Bytes.{number}
 use Rattle.units.specs.Tests.{lowest, some, pastLast, allOf}
 use Rattle.units.specs.Rounding.{rounded}
 use Rattle.units.proofs.Tests.{each}
 use Rattle.refusal.specs.declared.Answer.{Answer}
 use Rattle.refusal.specs.declared.Answer.the-variants as answer
+use Rattle.refusal.specs.Refusal.{answerNumber}
 use Rattle.level.specs.Reading.{inRange, readingOf}
 use Rattle.level.specs.Level.{tenthsOf, corrections, correctionOf, correctedSide, sideOf}
 use Rattle.record.specs.Records.{records, recordAt, zeros, backgroundsIn, vehicleTests, vehicleGood, vehicleIn, runTests, runGood, runIn, readingFrom, closingTests, closingGood, closingIn}
-use Rattle.sheet.specs.Sheet.{lastOf, wrongSize, noVehicle, noClosing, goodAt, lowestBroken, examined, anyAcceleration, hasAcceleration}
+use Rattle.sheet.specs.Sheet.{wrongSize, noVehicle, noClosing, goodBy, lowestBrokenBy, examinedBy, anyAcceleration, hasAcceleration}
 use Rattle.window.specs.Windows.{spanned, fitting, emptyRun, fourAt, firstPlace, firstWindow, largerSum, conditionLevel, emptyFour}
 use Rattle.valid_runs.specs.ValidRuns.{backgroundsOf, bothSides, validOf, candidateOf, restFrom, restOf, windowOf}
 use Rattle.reference.specs.Reference.{pmrOf, between, aUrban, aRef, referenceAt}
+use Rattle.limit.specs.Limits.{limitTable, classOf, tableLimit, limitOf}
 use Rattle.gears.specs.Acceleration.{accelerationOf, meanOf}
 use Rattle.gears.specs.Rules.{emptyGear, gearAt, a, firstNotFalling, gap, near, nearer, nearest, jOf, firstBelow, oneAt, acrossOf, choiceOf, kOf}
 use Rattle.session.specs.Session.{slowEnough, gearAcceleration, byWindow, stateOf, lowestNoWindow, remainingFrom, remaining, gearsOf, windowsOf}
 use Rattle.urban.specs.Urban.{weighedLevel, basisOf, partPower, lUrbanOf, outcomeOf}
 use Rattle.result.specs.Result.{resultBytes, outcomeIn, fieldsOf}
-use Rattle.decision.specs.Decision.{windowAt, measuredBy, measuredAt, oneOf, pairOf, selectedIn, finishBy, decideGears, decideWhole, trackOf, decideBy, decisionOver, sheetVehicle, sheetClosing, sheetBackgrounds, decisionOf, sheetSession, pmrIn, referenceIn, choiceIn, selectionIn}
+use Rattle.decision.specs.Decision.{windowAt, measuredBy, measuredAt, oneOf, pairOf, selectedIn, finishBy, decideGears, decideWhole, trackOf, decideLimited, decideBy, decisionOver, sheetVehicle, sheetClosing, sheetBackgrounds, pmrIn, sheetLimit, decisionOf, sheetSession, referenceIn, choiceIn, selectionIn}
 use Rattle.evaluation.specs.Answer.{answerBy, answerFor, answerOf, bufferBy, bufferOf}
-use Rattle.evaluation.specs.EarlierSheets.{oneBackground, decisionOverOne, unnamedGood, HadResult}
+use Rattle.evaluation.specs.EarlierSheets.{writtenLimit, oneBackground, withWritten, withOneAndWritten}
 use Rattle.evaluation.specs.Demand.{chosenRuns}
 use Rattle.text.specs.Text.{digitsOf, decimalOf, spaced, lineWith}
 use Rattle.line.specs.Line.{acceptedWord, lineOf, lineOfSheet}
-use Rattle.examples.specs.Starred.{Example, gives, shouldGive, starred, sided, workedWith, workedSheet}
+use Rattle.examples.specs.Starred.{Example, gives, shouldGive, starred, sided, limited, workedWith, workedSheet, limitZero}
 
 unfoldable pub same : List ℕ → List ℕ → Bool
 same [] [] = true
@@ -74,7 +74,7 @@ louderLine =
     79 ∷ 75 ∷ 32 ∷ 51 ∷ 32 ∷ 51 ∷ 32 ∷ 52 ∷ 32 ∷ 55 ∷ 56 ∷ 32 ∷ 50 ∷ 57 ∷ 32 ∷ 55 ∷ 50 ∷ 55 ∷ 32 ∷ 54 ∷ 53 ∷ 56
     ∷ 32 ∷ 55 ∷ 49 ∷ 32 ∷ 49 ∷ 48 ∷ 54 ∷ 32 ∷ 49 ∷ 52 ∷ 57 ∷ 32 ∷ 54 ∷ 54 ∷ 55 ∷ 32 ∷ 49 ∷ 52 ∷ 57 ∷ 32 ∷ 49 ∷ 10 ∷ []
 
--- ---- the worked sheet with one background
+-- ---- the worked sheet without wishes 1 and 8
 
 abbrev accepted : Answer → Bool
 accepted answer.Accepted = true
@@ -83,13 +83,6 @@ accepted (answer.Refused r) = false
 accepted→≡ : (a : Answer) → T (accepted a) → a ≡ answer.Accepted
 accepted→≡ answer.Accepted t = refl
 accepted→≡ (answer.Refused r) t = absurd t
-
--- the layout of a vehicle record and of a closing record without a background of the right side
-abbrev earlierVehicle : List ℕ → Bool
-earlierVehicle s = allOf (vehicleTests unnamedGood (recordAt s 0))
-
-abbrev earlierClosing : List ℕ → Bool
-earlierClosing s = allOf (closingTests unnamedGood (recordAt s (lastOf s)))
 
 -- ---- the test
 
@@ -100,14 +93,15 @@ tests =
     ∷ same (chosenRuns workedSheet) workedRuns
     ∷ same (chosenRuns louderSheet) workedRuns
     ∷ same (lineOfSheet louderSheet) louderLine
-    ∷ earlierVehicle workedSheet
-    ∷ earlierClosing workedSheet
-    ∷ accepted (answerFor (decisionOverOne workedSheet) 32)
-    ∷ not (earlierVehicle (workedWith 1))
+    ∷ accepted (answerFor (withOneAndWritten workedSheet) 32)
+    ∷ accepted (answerFor (withWritten (workedWith 1)) 32)
+    ∷ eqb (answerNumber (answerFor (withOneAndWritten (workedWith 1)) 32)) 5
+    ∷ eqb (answerNumber (answerFor (withWritten (limitZero workedSheet 1 0)) 32)) 5
+    ∷ allOf (map test limited)
     ∷ []
 
 computed : T (allOf tests)
-unfolding tests starred sided same test number lowest some pastLast rounded corrections correctionOf correctedSide sideOf inRange tenthsOf readingOf ofBits pmrOf between aUrban aRef referenceAt records recordAt zeros backgroundsIn vehicleTests vehicleGood vehicleIn runTests runGood runIn readingFrom closingTests closingGood closingIn wrongSize noVehicle noClosing goodAt lowestBroken examined anyAcceleration hasAcceleration backgroundsOf bothSides validOf candidateOf restFrom restOf windowOf spanned fitting emptyRun fourAt firstPlace firstWindow largerSum conditionLevel emptyFour accelerationOf meanOf emptyGear gearAt a firstNotFalling gap near nearer nearest jOf firstBelow oneAt acrossOf choiceOf kOf slowEnough gearAcceleration byWindow stateOf lowestNoWindow remainingFrom remaining gearsOf windowsOf weighedLevel basisOf partPower lUrbanOf outcomeOf windowAt measuredBy measuredAt oneOf pairOf selectedIn finishBy decideGears decideWhole trackOf decideBy decisionOver sheetVehicle sheetClosing sheetBackgrounds decisionOf sheetSession pmrIn referenceIn choiceIn selectionIn resultBytes outcomeIn fieldsOf answerBy answerOf bufferBy bufferOf oneBackground digitsOf decimalOf spaced lineWith acceptedWord lineOf lineOfSheet chosenRuns
+unfolding tests starred sided limited same test number lowest some pastLast rounded corrections correctionOf correctedSide sideOf inRange tenthsOf readingOf ofBits pmrOf between aUrban aRef referenceAt records recordAt zeros backgroundsIn vehicleTests vehicleGood vehicleIn runTests runGood runIn readingFrom closingTests closingGood closingIn wrongSize noVehicle noClosing goodBy lowestBrokenBy examinedBy anyAcceleration hasAcceleration backgroundsOf bothSides validOf candidateOf restFrom restOf windowOf spanned fitting emptyRun fourAt firstPlace firstWindow largerSum conditionLevel emptyFour accelerationOf meanOf emptyGear gearAt a firstNotFalling gap near nearer nearest jOf firstBelow oneAt acrossOf choiceOf kOf slowEnough gearAcceleration byWindow stateOf lowestNoWindow remainingFrom remaining gearsOf windowsOf weighedLevel basisOf partPower lUrbanOf outcomeOf windowAt measuredBy measuredAt oneOf pairOf selectedIn finishBy decideGears decideWhole trackOf decideLimited decideBy decisionOver sheetVehicle sheetClosing sheetBackgrounds pmrIn sheetLimit decisionOf sheetSession referenceIn choiceIn selectionIn resultBytes outcomeIn fieldsOf answerBy answerOf bufferBy bufferOf oneBackground writtenLimit limitTable classOf tableLimit limitOf withWritten withOneAndWritten digitsOf decimalOf spaced lineWith acceptedWord lineOf lineOfSheet chosenRuns
 computed = tt
 
 passed : (k : ℕ) → T (getD tests k true)
@@ -133,17 +127,24 @@ pub louder-line : lineOfSheet louderSheet ≡ louderLine
 unfolding tests
 louder-line = same→≡ (lineOfSheet louderSheet) louderLine (passed 4)
 
--- the worked sheet is one that had a result
-pub worked-had-result : HadResult workedSheet 32
+pub every-limited-test : T (allOf (map test limited))
 unfolding tests
-worked-had-result =
-    record {
-      vehicle = is-true (earlierVehicle workedSheet) (passed 5);
-      closing = is-true (earlierClosing workedSheet) (passed 6);
-      accepted = accepted→≡ (answerFor (decisionOverOne workedSheet) 32) (passed 7);
-    }
+every-limited-test = passed 9
 
--- with 0.1 on the right before, the layout without that field refuses it
-pub refused-for-byte-18 : earlierVehicle (workedWith 1) ≡ false
+-- the worked sheet had a result before either wish, and with 0.1 on the right before it had one without wish 1
+pub worked-had-result : answerFor (withOneAndWritten workedSheet) 32 ≡ answer.Accepted
 unfolding tests
-refused-for-byte-18 = not-true (earlierVehicle (workedWith 1)) (is-true (not (earlierVehicle (workedWith 1))) (passed 8))
+worked-had-result = accepted→≡ (answerFor (withOneAndWritten workedSheet) 32) (passed 5)
+
+pub sided-had-result : answerFor (withWritten (workedWith 1)) 32 ≡ answer.Accepted
+unfolding tests
+sided-had-result = accepted→≡ (answerFor (withWritten (workedWith 1)) 32) (passed 6)
+
+-- the latter was refused without wish 8, and the worked sheet with limit 0 without wish 1; both are accepted with it
+pub refused-for-byte-18 : answerNumber (answerFor (withOneAndWritten (workedWith 1)) 32) ≡ 5
+unfolding tests
+refused-for-byte-18 = eqb→eq _ 5 (passed 7)
+
+pub refused-for-limit-0 : answerNumber (answerFor (withWritten (limitZero workedSheet 1 0)) 32) ≡ 5
+unfolding tests
+refused-for-limit-0 = eqb→eq _ 5 (passed 8)

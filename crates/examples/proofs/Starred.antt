@@ -1,4 +1,5 @@
--- Every starred example of document 01 holds, and every session with a background on each side. Assumes nothing.
+-- Every starred example of document 01 holds, every session with a background on each side, and every one whose limit is looked up. Assumes
+-- nothing.
 use mathlib.Core.List.{List, [], _∷_, map}
 use Prim.Native.Nat.{ℕ, zero, suc, _<_}
 use native.Mathlib.Nat.{le-of-suc-le-suc, not-suc-le-zero}
@@ -6,8 +7,8 @@ use lib.Dec.{T}
 use lib.Ieee.Fits.{and-l, and-r}
 use lib.ListN.{length, getD}
 use Rattle.units.specs.Tests.{allOf}
-use Rattle.examples.specs.Starred.{Example, Holds, starred, sided}
-use Rattle.examples.proofs.Computed.{test, holds, every-starred-test, every-sided-test}
+use Rattle.examples.specs.Starred.{Example, Holds, starred, sided, limited}
+use Rattle.examples.proofs.Computed.{test, holds, every-starred-test, every-sided-test, every-limited-test}
 
 tested : (none : Example) (es : List Example) → T (allOf (map test es)) → (n : ℕ) → n < length es → Holds (getD es n none)
 tested none [] t n h = absurd (not-suc-le-zero h)
@@ -20,3 +21,6 @@ every-starred none = tested none starred every-starred-test
 
 pub every-sided : (none : Example) (n : ℕ) → n < length sided → Holds (getD sided n none)
 every-sided none = tested none sided every-sided-test
+
+pub every-limited : (none : Example) (n : ℕ) → n < length limited → Holds (getD limited n none)
+every-limited none = tested none limited every-limited-test

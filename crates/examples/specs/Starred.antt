@@ -1,11 +1,12 @@
--- The starred examples of document 01 ("Driven examples"), that of d 10.9 as wish 2 of document 02 has it, and sessions with a background on
--- each side (wish 8): for each, what the rules give and what they should give, as numbers.
+-- The starred examples of document 01 ("Driven examples"), that of d 10.9 as wish 2 of document 02 has it, sessions with a background on each side
+-- (wish 8) and sessions whose limit is looked up (wish 1): for each, what the rules give and what they should give, as numbers.
 -- Levels are in tenths of dB(A), accelerations in hundredths of m/s², speeds in tenths of km/h; floats are written by their bit patterns.
 use mathlib.Core.Path.{_≡_}
 use mathlib.Core.List.{List, [], _∷_, _++_, map}
 use Prim.Native.Nat.{ℕ, zero, suc, _+_, _%_, _/_}
 use lib.Ieee.{binary32, ofBits}
 use lib.ListN.{replicate}
+use lib.Seq.{sets}
 use Rattle.units.specs.Bytes.{number}
 use Rattle.refusal.specs.declared.Answer.{Answer}
 use Rattle.refusal.specs.declared.Answer.the-variants as answer
@@ -13,19 +14,22 @@ use Rattle.refusal.specs.Refusal.{numberOf, placeOf}
 use Rattle.level.specs.declared.Side.{Side}
 use Rattle.level.specs.declared.Side.the-variants as side
 use Rattle.level.specs.Level.{tenthsOf, correctedSide}
+use Rattle.record.specs.Records.{byte}
 use Rattle.window.specs.declared.ValidRun.{ValidRun}
 use Rattle.window.specs.declared.Window.{Window}
 use Rattle.window.specs.declared.Window.the-variants as window
 use Rattle.window.specs.Windows.{firstWindow}
 use Rattle.reference.specs.declared.Reference.{Reference}
 use Rattle.reference.specs.Reference.{aUrban, aRef}
+use Rattle.limit.specs.declared.Limit.{Limit}
+use Rattle.limit.specs.declared.Limit.the-variants as limits
 use Rattle.gears.specs.declared.Gear.{Gear}
 use Rattle.gears.specs.declared.Choice.{Choice}
 use Rattle.gears.specs.declared.Choice.the-variants as choice
 use Rattle.gears.specs.Acceleration.{accelerationOf}
 use Rattle.gears.specs.Rules.{choiceOf}
 use Rattle.urban.specs.Urban.{lUrbanOf}
-use Rattle.decision.specs.Decision.{sheetBackgrounds}
+use Rattle.decision.specs.Decision.{sheetBackgrounds, sheetLimit}
 use Rattle.evaluation.specs.Answer.{answerOf, bufferOf}
 use Rattle.evaluation.specs.Demand.{numbersOf}
 use Rattle.line.specs.Line.{lineOfSheet}
@@ -49,6 +53,8 @@ pub data Example : Type 0 where
   printed : List ℕ → List ℕ → Example
   -- the bytes of a sheet; the left and the right background and C, or the number and the place of its refusal
   evaluated : List ℕ → List ℕ → Example
+  -- the bytes of a sheet; the limit found and 1 for pass or 0 for fail, or the number and the place of its refusal
+  limitAndPass : List ℕ → List ℕ → Example
 
 -- ---- what the rules give, as numbers
 
@@ -82,6 +88,14 @@ abbrev pub evaluationGives : List ℕ → Answer → List ℕ
 evaluationGives s answer.Accepted = sheetBackgrounds s .left .0 ∷ sheetBackgrounds s .right .0 ∷ number (bufferOf s (replicate 32 0)) 8 2 ∷ []
 evaluationGives s (answer.Refused r) = numberOf r ∷ placeOf r ∷ []
 
+abbrev pub limitGives : Limit → List ℕ
+limitGives (limits.Found n) = n ∷ []
+limitGives (limits.Refused r) = []
+
+abbrev pub limitAndPassGives : List ℕ → Answer → List ℕ
+limitAndPassGives s answer.Accepted = limitGives (sheetLimit s) ++ (byte (bufferOf s (replicate 32 0)) 5 ∷ [])
+limitAndPassGives s (answer.Refused r) = numberOf r ∷ placeOf r ∷ []
+
 abbrev pub gives : Example → List ℕ
 gives (tenths pattern n) = tenthsOf (ofBits binary32 pattern) ∷ []
 gives (corrected level background n) = sideGives (correctedSide level background)
@@ -92,6 +106,7 @@ gives (chosen R u accelerations numbers) = choiceGives (choiceOf (referred 0 u R
 gives (powered q u a w c kp) = lUrbanOf (referred q u 0) a w c .kp ∷ []
 gives (printed s line) = lineOfSheet s
 gives (evaluated s numbers) = evaluationGives s (answerOf s 32)
+gives (limitAndPass s numbers) = limitAndPassGives s (answerOf s 32)
 
 abbrev pub shouldGive : Example → List ℕ
 shouldGive (tenths pattern n) = n ∷ []
@@ -103,6 +118,7 @@ shouldGive (chosen R u accelerations numbers) = numbers
 shouldGive (powered q u a w c kp) = kp ∷ []
 shouldGive (printed s line) = line
 shouldGive (evaluated s numbers) = numbers
+shouldGive (limitAndPass s numbers) = numbers
 
 -- an example holds if the rules give what they should
 abbrev pub Holds : Example → Type 0
@@ -218,4 +234,61 @@ sided =
     ∷ evaluated (sidedSheet 0 400 1001) (5 ∷ 9 ∷ [])
     -- the worked sheet with 0.1 on the right before, whose byte 18 alone a layout without that field refuses
     ∷ printed (workedWith 1) workedLine
+    ∷ []
+
+-- ---- a limit that is looked up
+
+-- a sheet with limit 0, given bytes 16 and 17
+abbrev pub limitZero : List ℕ → ℕ → ℕ → List ℕ
+limitZero s phase lowCar = sets s 14 (0 ∷ 0 ∷ phase ∷ lowCar ∷ [])
+
+-- a sheet of category N1
+abbrev pub asN1 : List ℕ → List ℕ
+asN1 s = sets s 1 (2 ∷ [])
+
+-- a sheet with P in tenths of kW and m in kg
+abbrev pub withPower : List ℕ → ℕ → ℕ → List ℕ
+withPower s power mass = sets s 4 (bytesOf 2 power ++ bytesOf 2 mass)
+
+-- the sheet with gear 3 alone
+abbrev pub oneGear : List ℕ
+oneGear = sidedSheet 0 400 0
+
+-- the worked line with 0 for pass
+abbrev pub failedLine : List ℕ
+failedLine = sets workedLine 42 (48 ∷ [])
+
+unfoldable pub limited : List Example
+limited =
+    -- the worked sheet, PMR 66.7 and L_urban 70: 72 in phase 1, 70 in phase 2, 68 in phase 3, where it fails, and the other fields are the same
+    printed (limitZero workedSheet 1 0) workedLine
+    ∷ limitAndPass (limitZero workedSheet 1 0) (72 ∷ 1 ∷ [])
+    ∷ limitAndPass (limitZero workedSheet 2 0) (70 ∷ 1 ∷ [])
+    ∷ limitAndPass (limitZero workedSheet 3 0) (68 ∷ 0 ∷ [])
+    ∷ printed (limitZero workedSheet 3 0) failedLine
+    -- 96.5 kW and 804 kg: 120.02.., rounded 120.0; 96.6 kW: 120.1
+    ∷ limitAndPass (withPower (limitZero oneGear 1 0) 965 804) (72 ∷ 1 ∷ [])
+    ∷ limitAndPass (withPower (limitZero oneGear 1 0) 966 804) (73 ∷ 1 ∷ [])
+    -- PMR 200.0 and 200.1 with byte 17 set
+    ∷ limitAndPass (withPower (limitZero oneGear 2 1) 1600 800) (73 ∷ 1 ∷ [])
+    ∷ limitAndPass (withPower (limitZero oneGear 2 1) 1601 800) (74 ∷ 1 ∷ [])
+    -- N1, whatever bytes 16 and 17 hold, also below PMR 5.0; with a written limit it has one
+    ∷ limitAndPass (asN1 (limitZero workedSheet 9 7)) (11 ∷ 0 ∷ [])
+    ∷ limitAndPass (asN1 (limitZero workedSheet 1 0)) (11 ∷ 0 ∷ [])
+    ∷ limitAndPass (withPower (asN1 (limitZero workedSheet 1 0)) 74 1500) (11 ∷ 0 ∷ [])
+    ∷ limitAndPass (asN1 workedSheet) (72 ∷ 1 ∷ [])
+    -- phase 0, phase 4, 2 in byte 17, and phase 0 also below PMR 5.0; then PMR 4.9 itself
+    ∷ limitAndPass (limitZero workedSheet 0 0) (12 ∷ 0 ∷ [])
+    ∷ limitAndPass (limitZero workedSheet 4 0) (12 ∷ 0 ∷ [])
+    ∷ limitAndPass (limitZero workedSheet 1 2) (12 ∷ 0 ∷ [])
+    ∷ limitAndPass (withPower (limitZero workedSheet 0 0) 74 1500) (12 ∷ 0 ∷ [])
+    ∷ limitAndPass (withPower (limitZero workedSheet 1 0) 74 1500) (6 ∷ 0 ∷ [])
+    -- a run of gear 0, record 3: the layout is asked first
+    ∷ limitAndPass (sets (asN1 (limitZero workedSheet 9 7)) 97 (0 ∷ [])) (5 ∷ 3 ∷ [])
+    -- a written limit with byte 16 or 17 set; limits 49, 101 and 256
+    ∷ limitAndPass (sets workedSheet 16 (1 ∷ [])) (5 ∷ 0 ∷ [])
+    ∷ limitAndPass (sets workedSheet 17 (1 ∷ [])) (5 ∷ 0 ∷ [])
+    ∷ limitAndPass (sets workedSheet 14 (49 ∷ 0 ∷ [])) (5 ∷ 0 ∷ [])
+    ∷ limitAndPass (sets workedSheet 14 (101 ∷ 0 ∷ [])) (5 ∷ 0 ∷ [])
+    ∷ limitAndPass (sets workedSheet 14 (0 ∷ 1 ∷ 1 ∷ 0 ∷ [])) (5 ∷ 0 ∷ [])
     ∷ []

@@ -9,10 +9,9 @@ use lib.Seq.{length-take-le}
 use borrow.Author.Tests.{ne-eqb, lt-ltb}
 use Rattle.refusal.specs.declared.Refusal.the-variants.{WrongSize}
 use Rattle.refusal.specs.declared.Answer.the-variants.{Refused}
-use Rattle.sheet.specs.declared.Examination.{Examination}
-use Rattle.sheet.specs.Sheet.{wrongSize}
+use Rattle.sheet.specs.Sheet.{wrongSize, layouts}
 use Rattle.sheet.proofs.Examinations.{row-2}
-use Rattle.decision.specs.Decision.{decideBy, decisionOver, sheetBackgrounds, decisionOf}
+use Rattle.decision.proofs.Decisions.{of-examination}
 use Rattle.evaluation.specs.Answer.{answerBy, answerOf}
 use Rattle.text.specs.Text.{onto}
 use Rattle.line.specs.Line.{lineOfSheet}
@@ -23,8 +22,8 @@ unfolding wrongSize
 too-long s h = simp (ne-eqb (length s) 0 (λ e. omega arith), lt-ltb 32768 (length s) h)
 
 pub long-refused : (s : List ℕ) → 32768 < length s → answerOf s 32 ≡ Refused WrongSize
-unfolding answerOf answerBy decisionOf decisionOver decideBy
-long-refused s h = ap (λ (e : Examination). answerBy (decideBy (sheetBackgrounds s) s e)) (row-2 s (too-long s h))
+unfolding answerOf answerBy
+long-refused s h = ap answerBy (of-examination s WrongSize (row-2 layouts s (too-long s h)))
 
 -- what the program owes of n bytes that it has read into its room and whose line it has laid out
 pub evaluated : (n : ℕ) (sheet before after : List ℕ) → n ≤ length sheet → length sheet ≡ 32769 → after ≡ onto (lineOfSheet (take n sheet)) before → Evaluated sheet n before after

@@ -5,4 +5,5 @@ pub mod ClosingRanges
 pub mod Readings
 pub mod Layouts
 pub mod RightBackground
+pub mod WrittenLimit
 pub mod SameBytes

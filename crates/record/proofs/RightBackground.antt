@@ -27,21 +27,21 @@ pub no-right : (r : List ℕ) (left right : ℕ) → zeros r right 2 ≡ true �
 unfolding backgroundsIn
 no-right r left right e = rw (zero-word r right e) refl
 
-module _ (asked : List ℕ → ℕ → Bool) (r : List ℕ) where
-  -- what is asked of these bytes holds in a record that passes every test
-  pub vehicle-test : allOf (vehicleTests asked r) ≡ true → asked r 18 ≡ true
+-- what is asked of these bytes holds in a record that passes every test, whichever records need no written limit
+pub vehicle-test : (unwritten : List ℕ → Bool) (asked : List ℕ → ℕ → Bool) (r : List ℕ) → allOf (vehicleTests unwritten asked r) ≡ true → asked r 18 ≡ true
+unfolding vehicleTests
+vehicle-test unwritten asked r e = is-true (asked r 18) (each (vehicleTests unwritten asked r) (rw e tt) 12)
+
+pub closing-test : (asked : List ℕ → ℕ → Bool) (r : List ℕ) → allOf (closingTests asked r) ≡ true → asked r 6 ≡ true
+unfolding closingTests
+closing-test asked r e = is-true (asked r 6) (each (closingTests asked r) (rw e tt) 4)
+
+-- two layouts that ask something else of them are one where the bytes meet both
+module _ (asked other : List ℕ → ℕ → Bool) (r : List ℕ) where
+  pub same-vehicle-tests : (unwritten : List ℕ → Bool) → asked r 18 ≡ true → other r 18 ≡ true → vehicleTests unwritten asked r ≡ vehicleTests unwritten other r
   unfolding vehicleTests
-  vehicle-test e = is-true (asked r 18) (each (vehicleTests asked r) (rw e tt) 12)
+  same-vehicle-tests unwritten p q = rw (p, q) refl
 
-  pub closing-test : allOf (closingTests asked r) ≡ true → asked r 6 ≡ true
+  pub same-closing-tests : asked r 6 ≡ true → other r 6 ≡ true → closingTests asked r ≡ closingTests other r
   unfolding closingTests
-  closing-test e = is-true (asked r 6) (each (closingTests asked r) (rw e tt) 4)
-
-  -- two layouts that ask something else of them are one where the bytes meet both
-  pub same-vehicle-tests : (other : List ℕ → ℕ → Bool) → asked r 18 ≡ true → other r 18 ≡ true → vehicleTests asked r ≡ vehicleTests other r
-  unfolding vehicleTests
-  same-vehicle-tests other p q = rw (p, q) refl
-
-  pub same-closing-tests : (other : List ℕ → ℕ → Bool) → asked r 6 ≡ true → other r 6 ≡ true → closingTests asked r ≡ closingTests other r
-  unfolding closingTests
-  same-closing-tests other p q = rw (p, q) refl
+  same-closing-tests p q = rw (p, q) refl

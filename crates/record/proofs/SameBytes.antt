@@ -25,8 +25,8 @@ unfolding backgroundsIn
 backgrounds-of r r′ a left right h k =
     ap₂ (λ (x : ℕ) (y : ℕ). record { left = record { 0 = x }; right = record { 0 = cond (eqb y 0) x y } }) (word-of r r′ a left h) (word-of r r′ a right k)
 
-vehicle : (category line power mass long rated : ℕ) → Backgrounds → (limit : ℕ) → Vehicle
-vehicle category line power mass long rated backgrounds limit =
+vehicle : (category line power mass long rated : ℕ) → Backgrounds → (limit phase low : ℕ) → Vehicle
+vehicle category line power mass long rated backgrounds limit phase low =
     record {
       category = category;
       «start_line» = line;
@@ -36,16 +36,19 @@ vehicle category line power mass long rated backgrounds limit =
       «rated_speed» = rated;
       backgrounds = backgrounds;
       limit = limit;
+      phase = phase;
+      «low_car» = low;
     }
 
-same-fields : {c l p m n r t c′ l′ p′ m′ n′ r′ t′ : ℕ} {b b′ : Backgrounds} → c ≡ c′ → l ≡ l′ → p ≡ p′ → m ≡ m′ → n ≡ n′ → r ≡ r′ → b ≡ b′ → t ≡ t′ → vehicle c l p m n r b t ≡ vehicle c′ l′ p′ m′ n′ r′ b′ t′
-same-fields e1 e2 e3 e4 e5 e6 e7 e8 = cc
+same-fields :
+    {c l p m n r t f w c′ l′ p′ m′ n′ r′ t′ f′ w′ : ℕ} {b b′ : Backgrounds} → c ≡ c′ → l ≡ l′ → p ≡ p′ → m ≡ m′ → n ≡ n′ → r ≡ r′ → b ≡ b′ → t ≡ t′ → f ≡ f′ → w ≡ w′ → vehicle c l p m n r b t f w ≡ vehicle c′ l′ p′ m′ n′ r′ b′ t′ f′ w′
+same-fields e1 e2 e3 e4 e5 e6 e7 e8 e9 e10 = cc
 
 pub vehicle-of : (r r′ : List ℕ) → SameBytes r r′ → vehicleIn r ≡ vehicleIn r′
 unfolding vehicleIn vehicle
 vehicle-of r r′ a =
     let w = word-of r r′ a in
-    same-fields (a 1 (omega arith)) (a 2 (omega arith)) (w 4 (omega arith)) (w 6 (omega arith)) (w 8 (omega arith)) (w 10 (omega arith)) (backgrounds-of r r′ a 12 18 (omega arith) (omega arith)) (w 14 (omega arith))
+    same-fields (a 1 (omega arith)) (a 2 (omega arith)) (w 4 (omega arith)) (w 6 (omega arith)) (w 8 (omega arith)) (w 10 (omega arith)) (backgrounds-of r r′ a 12 18 (omega arith) (omega arith)) (w 14 (omega arith)) (a 16 (omega arith)) (a 17 (omega arith))
 
 pub closing-of : (r r′ : List ℕ) → SameBytes r r′ → closingIn r ≡ closingIn r′
 unfolding closingIn

@@ -1,5 +1,5 @@
--- Records of 32 bytes: their fields, and the layout of each kind (document 01, "The sheet"; document 02, wish 8). A layout is a list of tests:
--- every field with its range, and every zero byte.
+-- Records of 32 bytes: their fields, and the layout of each kind (document 01, "The sheet"; document 02, wishes 1 and 8). A layout is a list of
+-- tests: every field with its range, and every zero byte.
 use mathlib.Core.Bool.{Bool, true, false, cond, not, _&&_, _||_}
 use mathlib.Core.List.{List, [], _∷_}
 use Prim.Native.Nat.{ℕ, zero, suc, _+_, _*_, _/_}
@@ -57,10 +57,17 @@ backgroundsIn r left right =
 
 -- ---- the vehicle record
 
--- its tests; what is asked of the right side's background is a parameter, so that the layout without that field has the same text
--- (`evaluation/specs/EarlierSheets`)
-unfoldable pub vehicleTests : (List ℕ → ℕ → Bool) → List ℕ → List Bool
-vehicleTests asked r =
+-- a limit field of 0 means that the limit is not written but looked up (wish 1)
+abbrev pub isLookedUp : ℕ → Bool
+isLookedUp limit = eqb limit 0
+
+abbrev pub lookedUp : List ℕ → Bool
+lookedUp r = isLookedUp (word r 14)
+
+-- Its tests. Which records need no written limit, and what is asked of the right side's background, are parameters, so that the layouts
+-- without wish 1 or wish 8 have the same text (`evaluation/specs/EarlierSheets`).
+unfoldable pub vehicleTests : (List ℕ → Bool) → (List ℕ → ℕ → Bool) → List ℕ → List Bool
+vehicleTests unwritten asked r =
     eqb (length r) 32
     ∷ eqb (byte r 0) 1
     -- category: M1 or N1
@@ -78,16 +85,17 @@ vehicleTests asked r =
     ∷ within 500 20000 (word r 10)
     -- the left side's background before, tenths of dB(A)
     ∷ within 0 1000 (word r 12)
-    -- limit, whole dB(A)
-    ∷ within 50 100 (word r 14)
-    ∷ zeros r 16 2
+    -- limit, whole dB(A), unless it is looked up
+    ∷ (unwritten r || within 50 100 (word r 14))
+    -- beside a written limit, zero; else the phase and whether it is a low car, of which the layout asks nothing
+    ∷ (unwritten r || zeros r 16 2)
     -- the right side's background before
     ∷ asked r 18
     ∷ zeros r 20 12
     ∷ []
 
 unfoldable pub vehicleGood : List ℕ → Bool
-vehicleGood r = allOf (vehicleTests rightGood r)
+vehicleGood r = allOf (vehicleTests lookedUp rightGood r)
 
 unfoldable pub vehicleIn : List ℕ → Vehicle
 vehicleIn r =
@@ -100,6 +108,8 @@ vehicleIn r =
       «rated_speed» = word r 10;
       backgrounds = backgroundsIn r 12 18;
       limit = word r 14;
+      phase = byte r 16;
+      «low_car» = byte r 17;
     }
 
 -- "From levels to windows", step 6: the path in cm, c + length, c 2,000 from AA' and 1,000 from PP'

@@ -117,8 +117,12 @@ pub struct Vehicle {
     pub rated_speed: u16,
     // before the runs
     pub backgrounds: Backgrounds,
-    // whole dB(A)
+    // whole dB(A); 0 if it is looked up by PMR and the two fields that follow
     pub limit: u16,
+    // 1 to 3 where the limit is looked up
+    pub phase: u8,
+    // there, 1 for a low car with at most four seats, else 0
+    pub low_car: u8,
 }
 
 pub fn vehicle_good(r: &[u8]) -> bool
@@ -127,6 +131,7 @@ pub fn vehicle_good(r: &[u8]) -> bool
     if r.len() != Record::SIZE {
         return false;
     }
+    let looked_up = units::number16(r, 14) == 0;
     (r[0] == Record::VEHICLE)
         & byte_within(r, 1, 1, 2)
         & byte_within(r, 2, 0, 1)
@@ -136,8 +141,8 @@ pub fn vehicle_good(r: &[u8]) -> bool
         & word_within(r, 8, 100, 2000)
         & word_within(r, 10, 500, 20000)
         & word_within(r, 12, 0, 1000)
-        & word_within(r, 14, 50, 100)
-        & blank(r, 16, 18)
+        & (looked_up | word_within(r, 14, 50, 100))
+        & (looked_up | blank(r, 16, 18))
         & word_within(r, 18, 0, 1000)
         & blank(r, 20, 32)
 }
@@ -155,6 +160,8 @@ pub fn vehicle_in(r: &[u8]) -> Vehicle
         rated_speed: units::number16(r, 10),
         backgrounds: backgrounds_in(r, 12, 18),
         limit: units::number16(r, 14),
+        phase: r[16],
+        low_car: r[17],
     }
 }
 

@@ -3,7 +3,7 @@ use mathlib.Core.Path.{_≡_, refl}
 use Prim.Native.Nat.{_<_}
 use native.Mathlib.Omega.{arith}
 use Rattle.refusal.specs.declared.Refusal.{Refusal}
-use Rattle.refusal.specs.declared.Refusal.the-variants.{ShortBuffer, WrongSize, NoVehicle, NoClosing, BrokenRecord, PmrOutOfRange, NoRun, NoWindow, NotFalling, NoRule, NoConstantSpeed}
+use Rattle.refusal.specs.declared.Refusal.the-variants.{ShortBuffer, WrongSize, NoVehicle, NoClosing, BrokenRecord, NoLimitForN1, NoLimitEntry, PmrOutOfRange, NoRun, NoWindow, NotFalling, NoRule, NoConstantSpeed}
 use Rattle.refusal.specs.declared.Answer.{Answer}
 use Rattle.refusal.specs.declared.Answer.the-variants.{Accepted, Refused}
 use Rattle.refusal.specs.Refusal.{numberOf, answerNumber}
@@ -14,6 +14,8 @@ refusals-numbered WrongSize = omega arith
 refusals-numbered NoVehicle = omega arith
 refusals-numbered (NoClosing n) = omega arith
 refusals-numbered (BrokenRecord n) = omega arith
+refusals-numbered NoLimitForN1 = omega arith
+refusals-numbered NoLimitEntry = omega arith
 refusals-numbered PmrOutOfRange = omega arith
 refusals-numbered NoRun = omega arith
 refusals-numbered (NoWindow g) = omega arith

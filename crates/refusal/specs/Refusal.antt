@@ -1,9 +1,9 @@
--- The number and the place of a refusal, and of an answer (document 01, "Refusals and what remains").
+-- The number and the place of a refusal, and of an answer (document 01, "Refusals and what remains"; document 02, wish 1).
 use Prim.Native.Nat.{ℕ}
 use Rattle.refusal.specs.declared.Refusal.{Refusal}
 use Rattle.refusal.specs.declared.Answer.{Answer}
 use Rattle.refusal.specs.declared.Answer.the-variants.{Accepted, Refused}
-use Rattle.refusal.specs.declared.Refusal.the-variants.{ShortBuffer, WrongSize, NoVehicle, NoClosing, BrokenRecord, PmrOutOfRange, NoRun, NoWindow, NotFalling, NoRule, NoConstantSpeed}
+use Rattle.refusal.specs.declared.Refusal.the-variants.{ShortBuffer, WrongSize, NoVehicle, NoClosing, BrokenRecord, NoLimitForN1, NoLimitEntry, PmrOutOfRange, NoRun, NoWindow, NotFalling, NoRule, NoConstantSpeed}
 
 -- the table's number of a refusal
 abbrev pub numberOf : Refusal → ℕ
@@ -12,6 +12,8 @@ numberOf WrongSize = 2
 numberOf NoVehicle = 3
 numberOf (NoClosing n) = 4
 numberOf (BrokenRecord n) = 5
+numberOf NoLimitForN1 = 11
+numberOf NoLimitEntry = 12
 numberOf PmrOutOfRange = 6
 numberOf NoRun = 7
 numberOf (NoWindow g) = 7
@@ -26,6 +28,8 @@ placeOf WrongSize = 0
 placeOf NoVehicle = 0
 placeOf (NoClosing n) = n
 placeOf (BrokenRecord n) = n
+placeOf NoLimitForN1 = 0
+placeOf NoLimitEntry = 0
 placeOf PmrOutOfRange = 0
 placeOf NoRun = 0
 placeOf (NoWindow g) = g

@@ -14,6 +14,10 @@ pub enum Refusal {
     NoClosing(usize),
     // 5: the lowest record that breaks the layout
     BrokenRecord(usize),
+    // 11: the limit is 0 and the category N1
+    NoLimitForN1,
+    // 12: the limit is 0, and the phase is outside 1 to 3 or byte 17 above 1
+    NoLimitEntry,
     // 6: PMR under 5.0 or over 600.0
     PmrOutOfRange,
     // 7: no acceleration run
@@ -44,6 +48,8 @@ pub fn number(r: Refusal) -> u8
         Refusal::NoVehicle => 3,
         Refusal::NoClosing(_) => 4,
         Refusal::BrokenRecord(_) => 5,
+        Refusal::NoLimitForN1 => 11,
+        Refusal::NoLimitEntry => 12,
         Refusal::PmrOutOfRange => 6,
         Refusal::NoRun => 7,
         Refusal::NoWindow(_) => 7,
@@ -63,6 +69,8 @@ pub fn place(r: Refusal) -> usize
         Refusal::NoVehicle => 0,
         Refusal::NoClosing(n) => n,
         Refusal::BrokenRecord(n) => n,
+        Refusal::NoLimitForN1 => 0,
+        Refusal::NoLimitEntry => 0,
         Refusal::PmrOutOfRange => 0,
         Refusal::NoRun => 0,
         Refusal::NoWindow(g) => g as usize,

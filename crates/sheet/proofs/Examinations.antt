@@ -16,7 +16,7 @@ use Rattle.record.specs.Records.{records, recordAt, byte, word, vehicleGood, ve
 use Rattle.record.proofs.VehicleRanges.{vehicle-ranges}
 use Rattle.sheet.specs.declared.Examination.{Examination}
 use Rattle.sheet.specs.declared.Examination.the-variants.{Whole, Refused}
-use Rattle.sheet.specs.Sheet.{lastOf, wrongSize, noVehicle, noClosing, goodAt, lowestBroken, examined, RunsGood}
+use Rattle.sheet.specs.Sheet.{lastOf, wrongSize, noVehicle, noClosing, Layouts, goodBy, lowestBrokenBy, examinedBy, layouts, goodAt, lowestBroken, examined, RunsGood}
 
 -- ---- the size
 
@@ -39,43 +39,56 @@ sized s e =
 
 -- ---- the layout of a record by its place
 
-module _ (s : List ℕ) (i : ℕ) where
-  pub first-place : i ≡ 0 → goodAt s i ≡ vehicleGood (recordAt s i)
-  unfolding goodAt
+module _ (y : Layouts) (s : List ℕ) (i : ℕ) where
+  pub first-place : i ≡ 0 → goodBy y s i ≡ y .vehicle (recordAt s i)
+  unfolding goodBy
   first-place e = simp (eq-eqb i 0 e)
 
-  pub last-place : (i ≡ 0 → ⊥) → i ≡ lastOf s → goodAt s i ≡ closingGood (recordAt s i)
-  unfolding goodAt
+  pub last-place : (i ≡ 0 → ⊥) → i ≡ lastOf s → goodBy y s i ≡ y .closing (recordAt s i)
+  unfolding goodBy
   last-place n e = simp (ne-eqb i 0 n, eq-eqb i (lastOf s) e)
 
-  pub middle-place : (i ≡ 0 → ⊥) → (i ≡ lastOf s → ⊥) → goodAt s i ≡ runGood (recordAt s i)
-  unfolding goodAt
+  pub middle-place : (i ≡ 0 → ⊥) → (i ≡ lastOf s → ⊥) → goodBy y s i ≡ runGood (recordAt s i)
+  unfolding goodBy
   middle-place n m = simp (ne-eqb i 0 n, ne-eqb i (lastOf s) m)
 
 -- ---- the rows, each with no earlier cause
 
-module _ (s : List ℕ) where
-  pub row-2 : wrongSize s ≡ true → examined s ≡ Refused WrongSize
-  unfolding examined
+module _ (y : Layouts) (s : List ℕ) where
+  pub row-2 : wrongSize s ≡ true → examinedBy y s ≡ Refused WrongSize
+  unfolding examinedBy
   row-2 a = simp a
 
-  pub row-3 : wrongSize s ≡ false → noVehicle s ≡ true → examined s ≡ Refused NoVehicle
-  unfolding examined
+  pub row-3 : wrongSize s ≡ false → noVehicle s ≡ true → examinedBy y s ≡ Refused NoVehicle
+  unfolding examinedBy
   row-3 a b = simp (a, b)
 
-  pub row-4 : wrongSize s ≡ false → noVehicle s ≡ false → noClosing s ≡ true → examined s ≡ Refused (NoClosing (lastOf s))
-  unfolding examined
+  pub row-4 : wrongSize s ≡ false → noVehicle s ≡ false → noClosing s ≡ true → examinedBy y s ≡ Refused (NoClosing (lastOf s))
+  unfolding examinedBy
   row-4 a b d = simp (a, b, d)
 
-  pub row-5 : wrongSize s ≡ false → noVehicle s ≡ false → noClosing s ≡ false → lowestBroken s < records s → examined s ≡ Refused (BrokenRecord (lowestBroken s))
-  unfolding examined
-  row-5 a b d e = simp (a, b, d, lt-ltb (lowestBroken s) (records s) e)
+  pub row-5 : wrongSize s ≡ false → noVehicle s ≡ false → noClosing s ≡ false → lowestBrokenBy y s < records s → examinedBy y s ≡ Refused (BrokenRecord (lowestBrokenBy y s))
+  unfolding examinedBy
+  row-5 a b d e = simp (a, b, d, lt-ltb (lowestBrokenBy y s) (records s) e)
 
-  pub no-row : wrongSize s ≡ false → noVehicle s ≡ false → noClosing s ≡ false → records s ≤ lowestBroken s → examined s ≡ Whole (vehicleIn (recordAt s 0)) (closingIn (recordAt s (lastOf s)))
-  unfolding examined
-  no-row a b d e = simp (a, b, d, le-ltb (lowestBroken s) (records s) e)
+  pub no-row : wrongSize s ≡ false → noVehicle s ≡ false → noClosing s ≡ false → records s ≤ lowestBrokenBy y s → examinedBy y s ≡ Whole (vehicleIn (recordAt s 0)) (closingIn (recordAt s (lastOf s)))
+  unfolding examinedBy
+  no-row a b d e = simp (a, b, d, le-ltb (lowestBrokenBy y s) (records s) e)
+
+  -- where no record breaks the layout, each is good
+  pub all-good : records s ≤ lowestBrokenBy y s → (i : ℕ) → i < records s → goodBy y s i ≡ true
+  unfolding lowestBrokenBy
+  all-good h i l = not-false (goodBy y s i) (found (λ k. not (goodBy y s k)) (records s) 0 .before i (omega arith) (omega arith))
 
 -- ---- a whole sheet
+
+-- a sheet that row 4 does not refuse counts all its runs
+pub closed : (s : List ℕ) → noClosing s ≡ false → word (recordAt s (lastOf s)) 2 + 2 ≡ records s
+unfolding noClosing
+closed s e =
+    let r = recordAt s (lastOf s) in
+    let second = neither (not (eqb (byte r 0) 9)) (not (eqb (word r 2 + 2) (records s))) e .1 in
+    eqb-true (word r 2 + 2) (records s) (not-false (eqb (word r 2 + 2) (records s)) second)
 
 pub record WholeSheet (s : List ℕ) (v : Vehicle) (z : Closing) : Type 0 where
   pub size : Sized s
@@ -88,37 +101,26 @@ pub record WholeSheet (s : List ℕ) (v : Vehicle) (z : Closing) : Type 0 where
   pub runs : (i : ℕ) → 0 < i → i < lastOf s → runGood (recordAt s i) ≡ true
 
 module _ (s : List ℕ) (v : Vehicle) (z : Closing) where
-  all-good : records s ≤ lowestBroken s → (i : ℕ) → i < records s → goodAt s i ≡ true
-  unfolding lowestBroken
-  all-good h i l = not-false (goodAt s i) (found (λ k. not (goodAt s k)) (records s) 0 .before i (omega arith) (omega arith))
-
-  closed : noClosing s ≡ false → word (recordAt s (lastOf s)) 2 + 2 ≡ records s
-  unfolding noClosing
-  closed e =
-      let r = recordAt s (lastOf s) in
-      let second = neither (not (eqb (byte r 0) 9)) (not (eqb (word r 2 + 2) (records s))) e .1 in
-      eqb-true (word r 2 + 2) (records s) (not-false (eqb (word r 2 + 2) (records s)) second)
-
   built : wrongSize s ≡ false → noClosing s ≡ false → records s ≤ lowestBroken s → Whole (vehicleIn (recordAt s 0)) (closingIn (recordAt s (lastOf s))) ≡ Whole v z → WholeSheet s v z
   unfolding closingIn
   built a d e k =
       let size = sized s a in
-      let counted = closed d in
-      let good = all-good e in
+      let counted = closed s d in
+      let good = all-good layouts s e in
       let same : z ≡ closingIn (recordAt s (lastOf s)) = cc in
       record {
         size = size;
         two = omega arith;
-        vehicle = sym (first-place s 0 refl) ∙ good 0 (size .not-empty);
+        vehicle = sym (first-place layouts s 0 refl) ∙ good 0 (size .not-empty);
         vehicle-is = cc;
-        closing = sym (last-place s (lastOf s) (omega arith) refl) ∙ good (lastOf s) (omega arith);
+        closing = sym (last-place layouts s (lastOf s) (omega arith) refl) ∙ good (lastOf s) (omega arith);
         closing-is = same;
         counted = ap (λ (x : Closing). x .runs + 2) same ∙ counted;
-        runs = λ i l m. sym (middle-place s i (omega arith) (omega arith)) ∙ good i (omega arith);
+        runs = λ i l m. sym (middle-place layouts s i (omega arith) (omega arith)) ∙ good i (omega arith);
       }
 
   pub whole : examined s ≡ Whole v z → WholeSheet s v z
-  unfolding examined
+  unfolding examinedBy
   whole =
       by-test Then (wrongSize s) _ _ (λ a k. absurd (let y : _≡_ {A = ℕ} 0 1 = cc in omega arith))
       (λ a. by-test Then (noVehicle s) _ _ (λ b k. absurd (let y : _≡_ {A = ℕ} 0 1 = cc in omega arith))

@@ -1,5 +1,5 @@
--- Sheets that are good and sheets that are not: each end of each field's range and the number beyond it, each unnamed byte, readings,
--- sizes and misplaced records. The outcomes are those of document 01 with wish 8 of document 02; one test computes that the definition gives
+-- Sheets that are good and sheets that are not: each end of each field's range and the number beyond it, each blank byte, readings,
+-- sizes and misplaced records. The outcomes are those of document 01 with wishes 1 and 8 of document 02; one test computes that the definition gives
 -- each. Assumes nothing.
 use mathlib.Core.Bool.{Bool}
 use mathlib.Core.List.{List, [], _∷_, _++_, map}
@@ -15,7 +15,7 @@ use Rattle.level.specs.Reading.{inRange, readingOf}
 use Rattle.record.specs.Records.{records, recordAt, zeros, vehicleTests, vehicleGood, runTests, runGood, closingTests, closingGood}
 use Rattle.sheet.specs.declared.Examination.{Examination}
 use Rattle.sheet.specs.declared.Examination.the-variants.{Whole, Refused}
-use Rattle.sheet.specs.Sheet.{wrongSize, noVehicle, noClosing, goodAt, lowestBroken, examined}
+use Rattle.sheet.specs.Sheet.{wrongSize, noVehicle, noClosing, goodBy, lowestBrokenBy, examinedBy, examined}
 
 -- an outcome as one number: the refusal's number and its place
 refusal : ℕ → ℕ → ℕ
@@ -56,10 +56,10 @@ holds : Example → Bool
 holds (edit at bytes o) = eqb (outcome (examined (sets sheet at bytes))) o
 holds (other s o) = eqb (outcome (examined s)) o
 
--- each of the `count` unnamed bytes from `at` on, set to 1
-unnamed : ℕ → ℕ → List Example
-unnamed at zero = []
-unnamed at (suc count) = edit at (1 ∷ []) (refusal 5 (at / 32)) ∷ unnamed (at + 1) count
+-- each of the `count` bytes from `at` on, all of which must be zero, set to 1 (16 and 17 because this sheet's limit is written)
+blank : ℕ → ℕ → List Example
+blank at zero = []
+blank at (suc count) = edit at (1 ∷ []) (refusal 5 (at / 32)) ∷ blank (at + 1) count
 
 -- the left reading: its kind and its pattern
 reading : ℕ → List ℕ → ℕ → Example
@@ -110,6 +110,16 @@ fields =
     ∷ edit 14 (50 ∷ 0 ∷ []) (good)
     ∷ edit 14 (100 ∷ 0 ∷ []) (good)
     ∷ edit 14 (101 ∷ 0 ∷ []) (refusal 5 0)
+    -- a limit of 0, with any bytes 16 and 17; 1 and 256 are not 0, and 0 and 72, low byte first, are 18,432 and not 72
+    ∷ edit 14 (0 ∷ 0 ∷ 0 ∷ 0 ∷ []) good
+    ∷ edit 14 (0 ∷ 0 ∷ 1 ∷ 0 ∷ []) good
+    ∷ edit 14 (0 ∷ 0 ∷ 255 ∷ 255 ∷ []) good
+    ∷ edit 14 (1 ∷ 0 ∷ 0 ∷ 0 ∷ []) (refusal 5 0)
+    ∷ edit 14 (0 ∷ 1 ∷ 1 ∷ 0 ∷ []) (refusal 5 0)
+    ∷ edit 14 (0 ∷ 72 ∷ 0 ∷ 0 ∷ []) (refusal 5 0)
+    -- with it, a byte without a name and a run that is not good still break the layout
+    ∷ edit 14 (0 ∷ 0 ∷ 1 ∷ 0 ∷ 0 ∷ 0 ∷ 1 ∷ []) (refusal 5 0)
+    ∷ other (sets (sets sheet 14 (0 ∷ 0 ∷ 1 ∷ 0 ∷ [])) 33 (0 ∷ [])) (refusal 5 1)
     -- gear
     ∷ edit 33 (0 ∷ []) (refusal 5 1)
     ∷ edit 33 (1 ∷ []) (good)
@@ -190,8 +200,8 @@ strings =
 
 examples : List Example
 examples =
-    fields ++ readings ++ strings ++ unnamed 3 1 ++ unnamed 16 2 ++ unnamed 20 12 ++ unnamed 37 3 ++ unnamed 54 10 ++ unnamed 65 1 ++ unnamed 72 24
+    fields ++ readings ++ strings ++ blank 3 1 ++ blank 16 2 ++ blank 20 12 ++ blank 37 3 ++ blank 54 10 ++ blank 65 1 ++ blank 72 24
 
 every-holds : T (allOf (map holds examples))
-unfolding refusal good outcome vehicle run closing sheet holds unnamed reading fields readings strings examples examined wrongSize noVehicle noClosing lowestBroken goodAt records recordAt zeros vehicleTests vehicleGood runTests runGood closingTests closingGood number lowest readingOf inRange ofBits
+unfolding refusal good outcome vehicle run closing sheet holds blank reading fields readings strings examples examinedBy wrongSize noVehicle noClosing lowestBrokenBy goodBy records recordAt zeros vehicleTests vehicleGood runTests runGood closingTests closingGood number lowest readingOf inRange ofBits
 every-holds = tt

@@ -1,3 +1,4 @@
 pub mod Examinations
+pub mod Layouts
 pub mod Presence
 mod Examples

@@ -28,22 +28,41 @@ noVehicle s = not (eqb (byte (recordAt s 0) 0) 1)
 unfoldable pub noClosing : List ℕ → Bool
 noClosing s = not (eqb (byte (recordAt s (lastOf s)) 0) 9) || not (eqb (word (recordAt s (lastOf s)) 2 + 2) (records s))
 
+-- What the vehicle and the closing record are asked for. It is a parameter, so that an examination by earlier layouts has the same text
+-- (`evaluation/specs/EarlierSheets`).
+pub record Layouts : Type 0 where
+  pub vehicle : List ℕ → Bool
+  pub closing : List ℕ → Bool
+
 -- the layout of record i: the first is the vehicle record, the last the closing record, every other a run record
-unfoldable pub goodAt : List ℕ → ℕ → Bool
-goodAt s i = cond (eqb i 0) (vehicleGood (recordAt s i)) (cond (eqb i (lastOf s)) (closingGood (recordAt s i)) (runGood (recordAt s i)))
+unfoldable pub goodBy : Layouts → List ℕ → ℕ → Bool
+goodBy y s i = cond (eqb i 0) (y .vehicle (recordAt s i)) (cond (eqb i (lastOf s)) (y .closing (recordAt s i)) (runGood (recordAt s i)))
 
 -- row 5: the lowest record that breaks the layout (the number of records where none does)
-unfoldable pub lowestBroken : List ℕ → ℕ
-lowestBroken s = lowest (λ i. not (goodAt s i)) (records s) 0
+unfoldable pub lowestBrokenBy : Layouts → List ℕ → ℕ
+lowestBrokenBy y s = lowest (λ i. not (goodBy y s i)) (records s) 0
 
 -- The first cause that holds, with its place: refusal 2, 3, 4 at the last record, 5 at the lowest broken one. Else the sheet is whole.
-unfoldable pub examined : List ℕ → Examination
-examined s =
+unfoldable pub examinedBy : Layouts → List ℕ → Examination
+examinedBy y s =
     cond (wrongSize s) (Refused WrongSize)
     (cond (noVehicle s) (Refused NoVehicle)
     (cond (noClosing s) (Refused (NoClosing (lastOf s)))
-    (cond (ltb (lowestBroken s) (records s)) (Refused (BrokenRecord (lowestBroken s)))
+    (cond (ltb (lowestBrokenBy y s) (records s)) (Refused (BrokenRecord (lowestBrokenBy y s)))
     (Whole (vehicleIn (recordAt s 0)) (closingIn (recordAt s (lastOf s)))))))
+
+-- by the layouts of `record/specs/Records`
+abbrev pub layouts : Layouts
+layouts = record { vehicle = vehicleGood; closing = closingGood }
+
+abbrev pub goodAt : List ℕ → ℕ → Bool
+goodAt s i = goodBy layouts s i
+
+abbrev pub lowestBroken : List ℕ → ℕ
+lowestBroken s = lowestBrokenBy layouts s
+
+abbrev pub examined : List ℕ → Examination
+examined s = examinedBy layouts s
 
 -- ---- the run records of a whole sheet
 

@@ -135,3 +135,13 @@ module _ (test : ℕ → Bool) where
       under : (b : Bool) → leb (lowest test count n) N ≡ b → lowest test count n ≤ N
       under true e = leb-true (lowest test count n) N e
       under false e = absurd (failed (f .before N lo (leb-false (lowest test count n) N e)))
+
+-- two tests that agree everywhere find the same number
+pub lowest-same : (test other : ℕ → Bool) → ((n : ℕ) → test n ≡ other n) → (count n : ℕ) → lowest test count n ≡ lowest other count n
+unfolding lowest
+lowest-same test other same zero n = refl
+lowest-same test other same (suc count) n = by (test n) refl (lowest-same test other same count (suc n))
+  where
+    by : (b : Bool) → test n ≡ b → lowest test count (suc n) ≡ lowest other count (suc n) → lowest test (suc count) n ≡ lowest other (suc count) n
+    by true e rest = lowest-here test count n e ∙ sym (lowest-here other count n (sym (same n) ∙ e))
+    by false e rest = lowest-next test count n e ∙ rest ∙ sym (lowest-next other count n (sym (same n) ∙ e))

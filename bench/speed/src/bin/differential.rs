@@ -79,9 +79,39 @@ fn fault(sheet: &[u8], size: usize) -> Result<Given, String> {
     }
 }
 
-/// Compares so many sheets, and prints how often each answer came up; whether all agree and each answer did.
+/// How often each verdict came up where the limit is looked up: by the highest PMR of a range, in tenths, and the byte of low cars,
+/// for each phase pass and fail.
+#[derive(Default)]
+struct Verdicts(BTreeMap<(u16, u8), [[usize; 2]; 3]>);
+
+impl Verdicts {
+    fn count(&mut self, sheet: &[u8], result: &[u8]) {
+        if sheet[14..16] == [0, 0] {
+            let pmr = u16::from_le_bytes([result[16], result[17]]);
+            let highest = [1200, 1600, 2000, 6000].into_iter().find(|&highest| pmr <= highest);
+            let class = (highest.expect("PMR is at most 600.0"), sheet[17]);
+            let of_phase = &mut self.0.entry(class).or_default()[usize::from(sheet[16]) - 1];
+            of_phase[usize::from(result[5] == 0)] += 1;
+        }
+    }
+
+    /// Prints them; whether each came up.
+    fn all_came_up(&self) -> bool {
+        println!("limit looked up              phase 1: pass     fail  phase 2: pass     fail  phase 3: pass     fail");
+        for ((highest, low_car), [one, two, three]) in &self.0 {
+            let [one, two, three] = [one, two, three].map(|[pass, fail]| format!("{pass:>15}{fail:>9}"));
+            println!("PMR up to {}.0, byte 17 = {low_car}{one:>26}{two}{three}", highest / 10);
+        }
+        let found = self.0.values().flatten().flatten().filter(|&&found| found > 0).count();
+        println!("{found} of 48 verdicts by class and phase came up");
+        found == 48
+    }
+}
+
+/// Compares so many sheets, and prints how often each answer and each verdict by class came up; whether all agree and each did.
 fn compare_sheets(random: &mut Random, corpus: &[Vec<u8>], count: usize) -> bool {
     let mut answers: BTreeMap<(u32, u8), usize> = BTreeMap::new();
+    let mut verdicts = Verdicts::default();
     for at in 0..count {
         let sheet = any_sheet(random, corpus);
         let size = if random.chance(5) { random.below(32) } else { 32 + random.below(40) };
@@ -90,7 +120,11 @@ fn compare_sheets(random: &mut Random, corpus: &[Vec<u8>], count: usize) -> bool
         assert!(sheet == before, "sheet {at} was written");
         match found {
             Ok(given) => {
-                let rule = if given.number == 0 { given.buffer[0] } else { 0 };
+                let mut rule = 0;
+                if given.number == 0 {
+                    rule = given.buffer[0];
+                    verdicts.count(&sheet, &given.buffer);
+                }
                 *answers.entry((given.number, rule)).or_default() += 1;
             }
             Err(words) => {
@@ -104,8 +138,8 @@ fn compare_sheets(random: &mut Random, corpus: &[Vec<u8>], count: usize) -> bool
         println!("{name:<12}{found:>9}");
     }
     println!("{count} sheets: the proved evaluation and two in Rust gave the same answers and buffers");
-    println!("{} of 15 answers came up", answers.len());
-    answers.len() == 15
+    println!("{} of 17 answers came up", answers.len());
+    verdicts.all_came_up() && answers.len() == 17
 }
 
 /// What a call on a motorcycle gives: 0 or a refusal's number, its place, the levels, and mean and pass between poisoned ones.

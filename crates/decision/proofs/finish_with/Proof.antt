@@ -2,6 +2,7 @@
 use mathlib.Core.Path.{sym, ap, subst, _∙_}
 use borrow.Author.Needs.{needs}
 use Rattle.urban.specs.declared.Basis.{Basis}
+use Rattle.urban.specs.declared.Outcome.{Outcome}
 use Rattle.urban.specs.Urban.{outcomeOf}
 use Rattle.decision.specs.declared.Decision.the-variants.{Result}
 use Rattle.decision.specs.Decision.{Straddling, finishBy}
@@ -24,7 +25,7 @@ returns : tie.Need-returns
 unfolding finishBy
 returns c =
     let s = c .before .before .before .before .before in
-    ap Result (c .outcome-of .ensures ∙ ap (λ (b : Basis). outcomeOf (s .args .reference) (s .args .limit) b) (c .before .basis-of .ensures))
+    ap (λ (o : Outcome). Result o (s .args .limit)) (c .outcome-of .ensures ∙ ap (λ (b : Basis). outcomeOf (s .args .reference) (s .args .limit) b) (c .before .basis-of .ensures))
     ∙ sym (ap (finishBy (s .args .reference) (s .args .limit)) (c .before .before .before .selection .given .1))
 
 returns-2 : tie.Need-returns-2

@@ -1,5 +1,7 @@
 -- `record::vehicle_good` meets its contract: its tests are the definition's, in the definition's order. Assumes nothing.
-use mathlib.Core.Path.{refl}
+use mathlib.Core.Path.{_≡_, refl, ap₂}
+use mathlib.Core.Bool.{Bool, _||_}
+use Prim.Native.Nat.{ℕ}
 use lib.Dec.{eqb}
 use borrow.Author.Needs.{needs}
 use borrow.Author.Tests.{eq-eqb, ne-eqb}
@@ -8,9 +10,16 @@ use Rattle.record.specs.Records.{byte, vehicleGood, vehicleTests}
 use Rattle.record.proofs.vehicle_good.Statement.{statement}
 use Rattle.record.proofs.vehicle_good.Tie as tie
 
+-- a test that is not asked where the limit is looked up
+unless : {w n : ℕ} {t u : Bool} → w ≡ n → t ≡ u → (eqb w 0 || t) ≡ (eqb n 0 || u)
+unless e f = ap₂ (λ (w : ℕ) (t : Bool). eqb w 0 || t) e f
+
 returns : tie.Need-returns
 unfolding vehicleGood vehicleTests
 returns c = simp (ne-eqb _ _ (c .if1 .taken))
+
+number16-requires : tie.Need-number16-requires
+number16-requires c κs = search needs
 
 shared-slice-read-result : tie.Need-shared-slice-read-result
 shared-slice-read-result c = search needs
@@ -54,14 +63,16 @@ blank-requires-3 c κs = search needs
 returns-2 : tie.Need-returns-2
 unfolding vehicleGood vehicleTests
 returns-2 c =
-    chained {a = eqb (byte (c .before .before .before .before .before .before .before .before .before .before .before .before .before .before .before .args .r .now) 0) 1} (eq-eqb _ _ (c .before .before .before .before .before .before .before .before .before .before .before .before .before .if1 .left)) refl
-    (also (c .before .before .before .before .before .before .before .before .before .before .before .byte-within .ensures) (also (c .before .before .before .before .before .before .before .before .before .before .byte-within2 .ensures) (also (c .before .before .before .before .before .before .before .before .before .blank .ensures) (also (c .before .before .before .before .before .before .before .before .word-within .ensures) (also (c .before .before .before .before .before .before .before .word-within2 .ensures) (also (c .before .before .before .before .before .before .word-within3 .ensures) (also (c .before .before .before .before .before .word-within4 .ensures) (also (c .before .before .before .before .word-within5 .ensures) (also (c .before .before .before .word-within6 .ensures) (also (c .before .before .blank2 .ensures) (also (c .before .word-within7 .ensures) (also (c .blank3 .ensures) done))))))))))))
+    let looked = c .before .before .before .before .before .before .before .before .before .before .before .before .before .number16 .ensures in
+    chained {a = eqb (byte (c .before .before .before .before .before .before .before .before .before .before .before .before .before .before .before .before .args .r .now) 0) 1} (eq-eqb _ _ (c .before .before .before .before .before .before .before .before .before .before .before .before .before .before .if1 .left)) refl
+    (also (c .before .before .before .before .before .before .before .before .before .before .before .byte-within .ensures) (also (c .before .before .before .before .before .before .before .before .before .before .byte-within2 .ensures) (also (c .before .before .before .before .before .before .before .before .before .blank .ensures) (also (c .before .before .before .before .before .before .before .before .word-within .ensures) (also (c .before .before .before .before .before .before .before .word-within2 .ensures) (also (c .before .before .before .before .before .before .word-within3 .ensures) (also (c .before .before .before .before .before .word-within4 .ensures) (also (c .before .before .before .before .word-within5 .ensures) (also (unless looked (c .before .before .before .word-within6 .ensures)) (also (unless looked (c .before .before .blank2 .ensures)) (also (c .before .word-within7 .ensures) (also (c .blank3 .ensures) done))))))))))))
 
 pub vehicle-good-spec : {M : Type 1} → statement M
 vehicle-good-spec =
     tie.close
     (tie.spec
     returns
+    number16-requires
     shared-slice-read-result
     byte-within-requires
     byte-within-requires-2

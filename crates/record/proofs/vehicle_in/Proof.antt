@@ -28,9 +28,15 @@ backgrounds-in-requires c κs = search needs
 number16-requires-5 : tie.Need-number16-requires-5
 number16-requires-5 c κs = search needs
 
+shared-slice-read-t13 : tie.Need-shared-slice-read-t13
+shared-slice-read-t13 c = search needs
+
+shared-slice-read-t15 : tie.Need-shared-slice-read-t15
+shared-slice-read-t15 c = search needs
+
 returns : tie.Need-returns
 unfolding vehicleIn
-returns c = simp (c .number165 .ensures, c .before .backgrounds-in .ensures, c .before .before .number164 .ensures, c .before .before .before .number163 .ensures, c .before .before .before .before .number162 .ensures, c .before .before .before .before .before .number16 .ensures)
+returns c = simp (c .before .before .number165 .ensures, c .before .before .before .backgrounds-in .ensures, c .before .before .before .before .number164 .ensures, c .before .before .before .before .before .number163 .ensures, c .before .before .before .before .before .before .number162 .ensures, c .before .before .before .before .before .before .before .number16 .ensures)
 
 pub vehicle-in-spec : {M : Type 1} → statement M
 vehicle-in-spec =
@@ -44,4 +50,6 @@ vehicle-in-spec =
     number16-requires-4
     backgrounds-in-requires
     number16-requires-5
+    shared-slice-read-t13
+    shared-slice-read-t15
     returns)

@@ -10,7 +10,7 @@ use Rattle.refusal.specs.declared.Refusal.the-variants.{BrokenRecord}
 use Rattle.record.specs.Records.{records, vehicleIn, closingIn}
 use Rattle.record.proofs.Shown.{record-long}
 use Rattle.sheet.specs.declared.Examination.the-variants.{Whole, Refused}
-use Rattle.sheet.specs.Sheet.{lastOf, wrongSize, noVehicle, noClosing}
+use Rattle.sheet.specs.Sheet.{lastOf, wrongSize, noVehicle, noClosing, layouts}
 use Rattle.sheet.proofs.Examinations.{Sized, sized, row-2, row-3, row-4, row-5, no-row}
 use Rattle.sheet.proofs.examine.Statement.{statement}
 use Rattle.sheet.proofs.examine.Tie as tie
@@ -36,13 +36,13 @@ wrong-size-requires : tie.Need-wrong-size-requires
 wrong-size-requires c κs = search needs
 
 returns : tie.Need-returns
-returns c = sym (row-2 _ (sym (c .before .wrong-size .ensures) ∙ c .if1 .taken))
+returns c = sym (row-2 layouts _ (sym (c .before .wrong-size .ensures) ∙ c .if1 .taken))
 
 no-vehicle-requires : tie.Need-no-vehicle-requires
 no-vehicle-requires c κs = size c .not-empty
 
 returns-2 : tie.Need-returns-2
-returns-2 c = sym (row-3 _ (right-size (c .before .before)) (sym (c .before .no-vehicle .ensures) ∙ c .if2 .taken))
+returns-2 c = sym (row-3 layouts _ (right-size (c .before .before)) (sym (c .before .no-vehicle .ensures) ∙ c .if2 .taken))
 
 no-closing-requires : tie.Need-no-closing-requires
 unfolding records
@@ -54,7 +54,7 @@ sub-t12 c = size (c .before .before .before .before) .not-empty
 
 returns-3 : tie.Need-returns-3
 unfolding records
-returns-3 c = sym (row-4 _ (right-size (c .before .before .before .before)) (hasByte-vehicle (c .before .before)) (sym (c .before .no-closing .ensures) ∙ c .if3 .taken))
+returns-3 c = sym (row-4 layouts _ (right-size (c .before .before .before .before)) (hasByte-vehicle (c .before .before)) (sym (c .before .no-closing .ensures) ∙ c .if3 .taken))
 
 lowest-broken-requires : tie.Need-lowest-broken-requires
 unfolding records
@@ -65,7 +65,7 @@ unfolding records
 returns-4 c =
     let e = c .before .before in
     let found = c .before .lowest-broken .ensures in
-    ap (λ (n : ℕ). Refused (BrokenRecord n)) found ∙ sym (row-5 (sheet e) (right-size (e .before .before .before .before)) (hasByte-vehicle (e .before .before)) (hasByte-closing e) (subst (λ (n : ℕ). n < records (sheet e)) found (c .if4 .taken)))
+    ap (λ (n : ℕ). Refused (BrokenRecord n)) found ∙ sym (row-5 layouts (sheet e) (right-size (e .before .before .before .before)) (hasByte-vehicle (e .before .before)) (hasByte-closing e) (subst (λ (n : ℕ). n < records (sheet e)) found (c .if4 .taken)))
 
 at-requires : tie.Need-at-requires
 at-requires c κs = search needs
@@ -96,7 +96,7 @@ returns-5 c =
     let found = c .before .before .before .before .before .lowest-broken .ensures in
     let all = subst (λ (n : ℕ). records (sheet e) ≤ n) found (c .before .before .before .before .if4 .left) in
     ap₂ Whole (c .before .before .vehicle-in .ensures ∙ ap vehicleIn (c .before .before .before .at .ensures)) (c .closing-in .ensures ∙ ap closingIn (c .before .at2 .ensures))
-    ∙ sym (no-row (sheet e) (right-size (e .before .before .before .before)) (hasByte-vehicle (e .before .before)) (hasByte-closing e) all)
+    ∙ sym (no-row layouts (sheet e) (right-size (e .before .before .before .before)) (hasByte-vehicle (e .before .before)) (hasByte-closing e) all)
 
 pub examine-spec : {M : Type 1} → statement M
 examine-spec =

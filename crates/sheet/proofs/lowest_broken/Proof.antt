@@ -7,7 +7,7 @@ use native.Mathlib.Omega.{arith}
 use Rattle.units.specs.Tests.{lowest}
 use Rattle.units.proofs.Lowest.{Passed, passed-start, passed-next, passed-stop, passed-end}
 use Rattle.record.specs.Records.{records}
-use Rattle.sheet.specs.Sheet.{goodAt, lowestBroken}
+use Rattle.sheet.specs.Sheet.{lowestBrokenBy, goodAt, lowestBroken}
 use Rattle.sheet.proofs.lowest_broken.Statement.{statement}
 use Rattle.sheet.proofs.lowest_broken.Tie as tie
 
@@ -42,7 +42,7 @@ loop-again c =
 
 -- the search goes through all records
 all : (s : List ℕ) (count : ℕ) → count ≡ records s → lowestBroken s ≡ lowest (broken s) count 0
-unfolding lowestBroken
+unfolding lowestBrokenBy
 all s count e = ap (λ (n : ℕ). lowest (broken s) n 0) (sym e)
 
 returns : tie.Need-returns Inv-loop μ-loop

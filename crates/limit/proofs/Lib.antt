@@ -1,0 +1,3 @@
+pub mod Classes
+pub mod Limits
+pub mod Examples
