@@ -20,7 +20,7 @@ use Rattle.level.specs.Reading.{inRange, readingOf}
 use Rattle.level.specs.Level.{tenthsOf, corrections, correctionOf, correctedSide, sideOf}
 use Rattle.record.specs.Records.{records, recordAt, zeros, backgroundsIn, vehicleTests, vehicleGood, vehicleIn, runTests, runGood, runIn, readingFrom, closingTests, closingGood, closingIn}
 use Rattle.sheet.specs.Sheet.{wrongSize, noVehicle, noClosing, goodBy, lowestBrokenBy, examinedBy, anyAcceleration, hasAcceleration}
-use Rattle.window.specs.Windows.{spanned, fitting, emptyRun, fourAt, firstPlace, firstWindow, largerSum, conditionLevel, emptyFour}
+use Rattle.window.specs.Windows.{spanned, fitting, emptyRun, fourAt, firstPlace, shortageOf, firstWindow, largerSum, conditionLevel, emptyFour}
 use Rattle.valid_runs.specs.ValidRuns.{backgroundsOf, bothSides, validOf, candidateOf, restFrom, restOf, windowOf}
 use Rattle.reference.specs.Reference.{pmrOf, between, aUrban, aRef, referenceAt}
 use Rattle.limit.specs.Limits.{limitTable, classOf, tableLimit, limitOf}
@@ -35,7 +35,7 @@ use Rattle.evaluation.specs.EarlierSheets.{writtenLimit, oneBackground, withWri
 use Rattle.evaluation.specs.Demand.{chosenRuns}
 use Rattle.text.specs.Text.{digitsOf, decimalOf, spaced, lineWith}
 use Rattle.line.specs.Line.{acceptedWord, lineOf, lineOfSheet}
-use Rattle.examples.specs.Starred.{Example, gives, shouldGive, starred, sided, limited, workedWith, workedSheet, limitZero}
+use Rattle.examples.specs.Starred.{Example, gives, shouldGive, starred, sided, limited, shortages, workedWith, workedSheet, limitZero}
 
 unfoldable pub same : List ℕ → List ℕ → Bool
 same [] [] = true
@@ -101,8 +101,13 @@ tests =
     ∷ []
 
 computed : T (allOf tests)
-unfolding tests starred sided limited same test number lowest some pastLast rounded corrections correctionOf correctedSide sideOf inRange tenthsOf readingOf ofBits pmrOf between aUrban aRef referenceAt records recordAt zeros backgroundsIn vehicleTests vehicleGood vehicleIn runTests runGood runIn readingFrom closingTests closingGood closingIn wrongSize noVehicle noClosing goodBy lowestBrokenBy examinedBy anyAcceleration hasAcceleration backgroundsOf bothSides validOf candidateOf restFrom restOf windowOf spanned fitting emptyRun fourAt firstPlace firstWindow largerSum conditionLevel emptyFour accelerationOf meanOf emptyGear gearAt a firstNotFalling gap near nearer nearest jOf firstBelow oneAt acrossOf choiceOf kOf slowEnough gearAcceleration byWindow stateOf lowestNoWindow remainingFrom remaining gearsOf windowsOf weighedLevel basisOf partPower lUrbanOf outcomeOf windowAt measuredBy measuredAt oneOf pairOf selectedIn finishBy decideGears decideWhole trackOf decideLimited decideBy decisionOver sheetVehicle sheetClosing sheetBackgrounds pmrIn sheetLimit decisionOf sheetSession referenceIn choiceIn selectionIn resultBytes outcomeIn fieldsOf answerBy answerOf bufferBy bufferOf oneBackground writtenLimit limitTable classOf tableLimit limitOf withWritten withOneAndWritten digitsOf decimalOf spaced lineWith acceptedWord lineOf lineOfSheet chosenRuns
+unfolding tests starred sided limited same test number lowest some pastLast rounded corrections correctionOf correctedSide sideOf inRange tenthsOf readingOf ofBits pmrOf between aUrban aRef referenceAt records recordAt zeros backgroundsIn vehicleTests vehicleGood vehicleIn runTests runGood runIn readingFrom closingTests closingGood closingIn wrongSize noVehicle noClosing goodBy lowestBrokenBy examinedBy anyAcceleration hasAcceleration backgroundsOf bothSides validOf candidateOf restFrom restOf windowOf spanned fitting emptyRun fourAt firstPlace shortageOf firstWindow largerSum conditionLevel emptyFour accelerationOf meanOf emptyGear gearAt a firstNotFalling gap near nearer nearest jOf firstBelow oneAt acrossOf choiceOf kOf slowEnough gearAcceleration byWindow stateOf lowestNoWindow remainingFrom remaining gearsOf windowsOf weighedLevel basisOf partPower lUrbanOf outcomeOf windowAt measuredBy measuredAt oneOf pairOf selectedIn finishBy decideGears decideWhole trackOf decideLimited decideBy decisionOver sheetVehicle sheetClosing sheetBackgrounds pmrIn sheetLimit decisionOf sheetSession referenceIn choiceIn selectionIn resultBytes outcomeIn fieldsOf answerBy answerOf bufferBy bufferOf oneBackground writtenLimit limitTable classOf tableLimit limitOf withWritten withOneAndWritten digitsOf decimalOf spaced lineWith acceptedWord lineOf lineOfSheet chosenRuns
 computed = tt
+
+-- the table of gears without a window by itself: what one declaration may compute is limited
+computed-shortages : T (allOf (map test shortages))
+unfolding shortages same test number lowest some rounded corrections correctionOf correctedSide sideOf inRange tenthsOf readingOf ofBits pmrOf between aUrban aRef referenceAt records recordAt zeros backgroundsIn vehicleTests vehicleGood vehicleIn runTests runGood runIn readingFrom closingTests closingGood closingIn wrongSize noVehicle noClosing goodBy lowestBrokenBy examinedBy anyAcceleration hasAcceleration backgroundsOf bothSides validOf candidateOf restFrom restOf windowOf spanned fitting emptyRun fourAt firstPlace shortageOf firstWindow accelerationOf meanOf emptyGear gearAt a firstNotFalling gap near nearer nearest jOf firstBelow oneAt acrossOf choiceOf slowEnough gearAcceleration byWindow stateOf lowestNoWindow remainingFrom remaining gearsOf windowsOf windowAt measuredBy measuredAt oneOf pairOf selectedIn finishBy decideGears decideWhole trackOf decideLimited decideBy decisionOver sheetVehicle sheetClosing sheetBackgrounds pmrIn sheetLimit decisionOf answerBy answerOf limitOf pastLast emptyFour
+computed-shortages = tt
 
 passed : (k : ℕ) → T (getD tests k true)
 passed = each tests computed
@@ -130,6 +135,9 @@ louder-line = same→≡ (lineOfSheet louderSheet) louderLine (passed 4)
 pub every-limited-test : T (allOf (map test limited))
 unfolding tests
 every-limited-test = passed 9
+
+pub every-shortage-test : T (allOf (map test shortages))
+every-shortage-test = computed-shortages
 
 -- the worked sheet had a result before either wish, and with 0.1 on the right before it had one without wish 1
 pub worked-had-result : answerFor (withOneAndWritten workedSheet) 32 ≡ answer.Accepted

@@ -1,5 +1,6 @@
 -- The starred examples of document 01 ("Driven examples"), that of d 10.9 as wish 2 of document 02 has it, sessions with a background on each side
--- (wish 8) and sessions whose limit is looked up (wish 1): for each, what the rules give and what they should give, as numbers.
+-- (wish 8), sessions whose limit is looked up (wish 1) and sessions in which a gear has no window (wish 5): for each, what the rules give and what
+-- they should give, as numbers.
 -- Levels are in tenths of dB(A), accelerations in hundredths of m/s², speeds in tenths of km/h; floats are written by their bit patterns.
 use mathlib.Core.Path.{_≡_}
 use mathlib.Core.List.{List, [], _∷_, _++_, map}
@@ -70,7 +71,7 @@ runsFrom n (l ∷ levels) =
 
 abbrev pub windowGives : Window → List ℕ
 windowGives (window.Runs f) = numbersOf f
-windowGives window.Nothing = []
+windowGives (window.Nothing shortage) = []
 
 abbrev pub gearsWith : List ℕ → List Gear
 gearsWith = map (λ x. record { number = 0; acceleration = record { 0 = x } })
@@ -152,22 +153,30 @@ vehicle right =
 abbrev pub closing : ℕ → ℕ → ℕ → List ℕ
 closing runs left right = (9 ∷ 0 ∷ []) ++ bytesOf 2 runs ++ bytesOf 2 left ++ bytesOf 2 right ++ replicate 24 0
 
--- given: the right background before
-abbrev pub workedWith : ℕ → List ℕ
-workedWith right =
-    vehicle right
-    -- acceleration, gear 2: 74.0 on both sides
-    ++ four (run 2 2 430 570 0x4294_0000 0x4294_0000)
-    -- gear 3: 72.5 twice and 72.25 twice on the left, 71.5 on the right
-    ++ run 2 3 442 545 0x4291_0000 0x428f_0000 ++ run 2 3 442 545 0x4291_0000 0x428f_0000
+-- acceleration, gear 2: 74.0 on both sides
+abbrev pub worked2 : List ℕ
+worked2 = four (run 2 2 430 570 0x4294_0000 0x4294_0000)
+
+-- gear 3: 72.5 twice and 72.25 twice on the left, 71.5 on the right
+abbrev pub worked3 : List ℕ
+worked3 =
+    run 2 3 442 545 0x4291_0000 0x428f_0000 ++ run 2 3 442 545 0x4291_0000 0x428f_0000
     ++ run 2 3 442 545 0x4290_8000 0x428f_0000 ++ run 2 3 442 545 0x4290_8000 0x428f_0000
-    -- gear 4: 70.125 and 70.0
-    ++ four (run 2 4 470 539 0x428c_4000 0x428c_0000)
-    -- constant speed, gear 3: 66.0 and 65.5; gear 4: 65.0 and 65.1875
-    ++ four (run 3 3 500 500 0x4284_0000 0x4283_0000)
-    ++ four (run 3 4 500 500 0x4282_0000 0x4282_6000)
-    -- 20 runs, left background 40.0
-    ++ closing 20 400 0
+
+-- gear 4: 70.125 and 70.0
+abbrev pub worked4 : List ℕ
+worked4 = four (run 2 4 470 539 0x428c_4000 0x428c_0000)
+
+-- constant speed, gear 3: 66.0 and 65.5; gear 4: 65.0 and 65.1875
+abbrev pub constant3 : List ℕ
+constant3 = run 3 3 500 500 0x4284_0000 0x4283_0000
+
+abbrev pub constant4 : List ℕ
+constant4 = run 3 4 500 500 0x4282_0000 0x4282_6000
+
+-- given: the right background before; left background 40.0
+abbrev pub workedWith : ℕ → List ℕ
+workedWith right = vehicle right ++ worked2 ++ worked3 ++ worked4 ++ four constant3 ++ four constant4 ++ closing 20 400 0
 
 abbrev pub workedSheet : List ℕ
 workedSheet = workedWith 0
@@ -291,4 +300,51 @@ limited =
     ∷ limitAndPass (sets workedSheet 14 (49 ∷ 0 ∷ [])) (5 ∷ 0 ∷ [])
     ∷ limitAndPass (sets workedSheet 14 (101 ∷ 0 ∷ [])) (5 ∷ 0 ∷ [])
     ∷ limitAndPass (sets workedSheet 14 (0 ∷ 1 ∷ 1 ∷ 0 ∷ [])) (5 ∷ 0 ∷ [])
+    ∷ []
+
+-- ---- a gear without a window
+
+-- a sheet of these runs, `count` of them, with backgrounds of 40.0
+abbrev pub sheetWith : ℕ → List ℕ → List ℕ
+sheetWith count runs = vehicle 0 ++ runs ++ closing count 400 0
+
+-- the worked sheet's acceleration runs with these at constant speed
+abbrev pub atConstantSpeed : ℕ → List ℕ → List ℕ
+atConstantSpeed count runs = sheetWith (12 + count) (worked2 ++ worked3 ++ worked4 ++ runs)
+
+abbrev pub three : List ℕ → List ℕ
+three r = r ++ r ++ r
+
+-- a run with 66.0 and one with this float, on the left, in turn, twice, both with 65.5 on the right; given: kind, gear and speeds
+abbrev pub inTurn : ℕ → ℕ → ℕ → ℕ → ℕ → List ℕ
+inTurn kind gear start end left =
+    let quiet = run kind gear start end 0x4284_0000 0x4283_0000 in
+    let loud = run kind gear start end left 0x4283_0000 in
+    quiet ++ loud ++ quiet ++ loud
+
+-- runs of which the first is struck
+abbrev pub struck : List ℕ → List ℕ
+struck runs = sets runs 2 (1 ∷ [])
+
+unfoldable pub shortages : List Example
+shortages =
+    -- 66.0, 68.1, 66.0, 68.1 at constant speed in gear 3: four, and too wide, whether gear 4 has a window or too few runs
+    evaluated (atConstantSpeed 8 (inTurn 3 3 500 500 0x4288_3333 ++ four constant4)) (15 ∷ 3 ∷ [])
+    ∷ evaluated (atConstantSpeed 7 (inTurn 3 3 500 500 0x4288_3333 ++ three constant4)) (15 ∷ 3 ∷ [])
+    -- three in gear 3, which decides though gear 4 is too wide; a window in gear 3 leaves gear 4 to decide
+    ∷ evaluated (atConstantSpeed 7 (three constant3 ++ inTurn 3 4 500 500 0x4288_3333)) (10 ∷ 3 ∷ [])
+    ∷ evaluated (atConstantSpeed 8 (four constant3 ++ inTurn 3 4 500 500 0x4288_3333)) (15 ∷ 4 ∷ [])
+    ∷ evaluated (atConstantSpeed 7 (four constant3 ++ three constant4)) (10 ∷ 4 ∷ [])
+    -- 68.0 is within, and leaves gear 4 to decide, too
+    ∷ evaluated (atConstantSpeed 7 (inTurn 3 3 500 500 0x4288_0000 ++ three constant4)) (10 ∷ 4 ∷ [])
+    -- acceleration runs: gear 2 too wide and gear 3 too few; gear 2 too few and gear 3 too wide
+    ∷ evaluated (sheetWith 7 (inTurn 2 2 430 570 0x4288_3333 ++ three (run 2 3 442 545 0x4284_0000 0x4283_0000))) (14 ∷ 2 ∷ [])
+    ∷ evaluated (sheetWith 7 (three (run 2 2 430 570 0x4284_0000 0x4283_0000) ++ inTurn 2 3 442 545 0x4288_3333)) (7 ∷ 2 ∷ [])
+    -- one of four is struck, and three are valid; one of five is struck, and four are valid
+    ∷ evaluated (sheetWith 4 (struck (inTurn 2 2 430 570 0x4288_3333))) (7 ∷ 2 ∷ [])
+    ∷ evaluated (sheetWith 5 (struck (run 2 2 430 570 0x4284_0000 0x4283_0000) ++ inTurn 2 2 430 570 0x4288_3333)) (14 ∷ 2 ∷ [])
+    -- the worked sheet with six runs of gear 5, all struck: none is valid
+    ∷ evaluated (atConstantSpeed 14 (four constant3 ++ four constant4 ++ three (struck (run 2 5 490 520 0x4284_0000 0x4283_0000)) ++ three (struck (run 2 5 490 520 0x4284_0000 0x4283_0000)))) (7 ∷ 5 ∷ [])
+    -- no acceleration run
+    ∷ evaluated (sheetWith 8 (four constant3 ++ four constant4)) (7 ∷ 0 ∷ [])
     ∷ []
