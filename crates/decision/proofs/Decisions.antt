@@ -22,11 +22,10 @@ use Rattle.limit.specs.declared.Limit.{Limit}
 use Rattle.limit.specs.Limits.{limitOf}
 use Rattle.gears.specs.declared.Gear.{Gear}
 use Rattle.gears.specs.Rules.{gearAt, firstNotFalling, choiceOf}
-use Rattle.session.specs.Session.{Session, sessionOf, lowestNoWindow, withoutWindow, gearsOf, windowsOf}
 use Rattle.session.specs.declared.WithoutWindow.the-variants as without
-use Rattle.session.proofs.Tables.{gear-named, no-gear-named}
+use Rattle.session.specs.Session.{Session, sessionOf, withoutWindow, gearsOf, windowsOf}
 use Rattle.decision.specs.declared.Decision.the-variants.{Refused}
-use Rattle.decision.specs.Decision.{outOfRange, selectedIn, finishBy, decideGears, decideWhole, trackOf, decideLimited, decideBy, decisionOver, sheetVehicle, sheetClosing, sheetBackgrounds, pmrIn, sheetLimit, decisionOf}
+use Rattle.decision.specs.Decision.{outOfRange, selectedIn, finishBy, decideGears, unlessWithout, decideWhole, trackOf, decideLimited, decideBy, decisionOver, sheetVehicle, sheetClosing, sheetBackgrounds, pmrIn, sheetLimit, decisionOf}
 
 -- ---- rows 2 to 5
 
@@ -58,14 +57,12 @@ module _ (t : Session) (q limit : ℕ) where
     row-7-none e = simp (range, e)
 
     pub row-7-gear : anyAcceleration (t .sheet) ≡ true → (gear : ℕ) (x : Shortage) → withoutWindow t ≡ without.Gear gear x → decideWhole t q limit ≡ Refused (refusal.NoWindow gear x)
-    unfolding decideWhole
-    row-7-gear e gear x w =
-        let n = gear-named t gear x w in
-        rw (n .1, n .2) (simp (range, e, lt-ltb (lowestNoWindow t) 16 (n .0)))
+    unfolding decideWhole unlessWithout
+    row-7-gear e gear x w = simp (range, e, w)
 
     pub rows-8-to-10 : anyAcceleration (t .sheet) ≡ true → withoutWindow t ≡ without.NoGear → decideWhole t q limit ≡ decideGears (referenceAt q) limit t (gearsOf t) (windowsOf t)
-    unfolding decideWhole
-    rows-8-to-10 e w = simp (range, e, le-ltb (lowestNoWindow t) 16 (no-gear-named t w))
+    unfolding decideWhole unlessWithout
+    rows-8-to-10 e w = simp (range, e, w)
 
 -- ---- rows 8 to 10
 

@@ -30,7 +30,9 @@ use Rattle.gears.specs.declared.Choice.{Choice}
 use Rattle.gears.specs.declared.Choice.the-variants as choice
 use Rattle.gears.specs.Rules.{gearAt, firstNotFalling, choiceOf}
 use Rattle.session.specs.declared.Track.{Track}
-use Rattle.session.specs.Session.{Session, sessionOf, windowIn, shortageIn, lowestNoWindow, gearsOf, windowsOf}
+use Rattle.session.specs.declared.WithoutWindow.{WithoutWindow}
+use Rattle.session.specs.declared.WithoutWindow.the-variants as without
+use Rattle.session.specs.Session.{Session, sessionOf, windowIn, withoutWindow, gearsOf, windowsOf}
 use Rattle.urban.specs.declared.Chosen.the-variants.{One, Pair}
 use Rattle.urban.specs.Urban.{Straddled, basisOf, outcomeOf}
 use Rattle.decision.specs.declared.Measured.{Measured}
@@ -95,13 +97,17 @@ decideGears r limit t gs ws =
     cond (ltb (firstNotFalling gs) (length gs - 1)) (Refused (refusal.NotFalling (gearAt gs (firstNotFalling gs) .number)))
     (finishBy r limit (selectedIn t gs ws (choiceOf r gs)))
 
+-- row 7 for a gear without an acceleration window, by its shortage; where there is none such, what the other rows give
+unfoldable pub unlessWithout : WithoutWindow → Decision → Decision
+unlessWithout (without.Gear gear shortage) d = Refused (refusal.NoWindow gear shortage)
+unlessWithout without.NoGear d = d
+
 -- rows 6 to 10, for a whole sheet of PMR q (in tenths) and a limit
 unfoldable pub decideWhole : Session → ℕ → ℕ → Decision
 decideWhole t q limit =
     cond (outOfRange q) (Refused refusal.PmrOutOfRange)
     (cond (not (anyAcceleration (t .sheet))) (Refused refusal.NoRun)
-    (cond (ltb (lowestNoWindow t) 16) (let gear = lowestNoWindow t + 1 in Refused (refusal.NoWindow gear (shortageIn t 2 gear)))
-    (decideGears (referenceAt q) limit t (gearsOf t) (windowsOf t))))
+    (unlessWithout (withoutWindow t) (decideGears (referenceAt q) limit t (gearsOf t) (windowsOf t))))
 
 -- rows 11 and 12 are the limit's
 unfoldable pub decideLimited : Session → ℕ → Limit → Decision

@@ -26,8 +26,6 @@ use Rattle.sheet.specs.Sheet.{wrongSize, noVehicle, noClosing, lowestBroken, ex
 use Rattle.window.specs.declared.Four.{Four}
 use Rattle.window.specs.declared.Window.{Window}
 use Rattle.window.specs.declared.Window.the-variants as window
-use Rattle.window.proofs.Searches.{none-is}
-use Rattle.valid_runs.specs.ValidRuns.{windowOf}
 use Rattle.reference.specs.declared.Reference.{Reference}
 use Rattle.limit.specs.declared.Limit.{Limit}
 use Rattle.limit.specs.declared.Limit.the-variants as limits
@@ -36,10 +34,12 @@ use Rattle.gears.specs.declared.Gear.{Gear}
 use Rattle.gears.specs.declared.Choice.{Choice}
 use Rattle.gears.specs.declared.Choice.the-variants as choice
 use Rattle.gears.specs.Rules.{firstNotFalling}
-use Rattle.session.specs.Session.{Session, windowIn, shortageIn, lowestNoWindow, gearsOf, windowsOf}
+use Rattle.session.specs.declared.WithoutWindow.{WithoutWindow}
+use Rattle.session.specs.Session.{Session, shortageIn, lowestNoWindow, withoutWindow, gearsOf, windowsOf}
+use Rattle.session.proofs.Tables.{missing-is}
 use Rattle.decision.specs.declared.Decision.{Decision}
 use Rattle.decision.specs.declared.Decision.the-variants as decision
-use Rattle.decision.specs.Decision.{outOfRange, measuredBy, measuredAt, oneOf, pairOf, selectedIn, finishBy, decideGears, decideWhole, decideLimited, decideBy, decisionOver, sheetVehicle, sheetClosing, sheetBackgrounds, pmrIn, sheetLimit, decisionOf, sheetSession, referenceIn, choiceIn}
+use Rattle.decision.specs.Decision.{outOfRange, measuredBy, measuredAt, oneOf, pairOf, selectedIn, finishBy, decideGears, unlessWithout, decideWhole, decideLimited, decideBy, decisionOver, sheetVehicle, sheetClosing, sheetBackgrounds, pmrIn, sheetLimit, decisionOf, sheetSession, referenceIn, choiceIn}
 use Rattle.evaluation.specs.Answer.{answerBy, answerOf}
 use Rattle.evaluation.specs.Rows.{Row, undecided, missing, gearNumber, noConstant, lowestNoConstant, rowsBy, rows, emptyRow, First, None}
 
@@ -110,11 +110,6 @@ step : {A : Type 0} (f : A → Told) (b : Bool) (x y : A) (t u : Told) → f x �
 step f true x y t u p q = p
 step f false x y t u p q = q
 
--- a window that is missing has the shortage of its gear
-missing-is : (t : Session) (kind gear : ℕ) (x : Shortage) → windowIn t kind gear ≡ window.Nothing x → x ≡ shortageIn t kind gear
-unfolding windowOf
-missing-is t kind gear x e = none-is _ x e .0
-
 module _ (numbers : WindowNumbers) where
   tells : Answer → Told
   tells a = told (answerNumberBy numbers a) (answerPlace a)
@@ -154,12 +149,14 @@ module _ (numbers : WindowNumbers) where
 
 module _ (numbers : WindowNumbers) (s : List ℕ) (size : ℕ) where
   whole : (limit : ℕ) → decided numbers (decideWhole (sheetSession s) (pmrIn s) limit) ≡ first (drop 7 (rowsBy numbers s size))
-  unfolding decideWhole decideGears sheetSession rowsBy choiceIn referenceIn first
+  unfolding decideWhole unlessWithout withoutWindow decideGears sheetSession rowsBy choiceIn referenceIn first
   whole limit =
+      let t = sheetSession s in
+      let gears : Decision = decideGears (referenceIn s) limit t (gearsOf t) (windowsOf t) in
       step (decided numbers) (outOfRange (pmrIn s)) _ _ _ _ (of-refusal numbers refusal.PmrOutOfRange)
       (step (decided numbers) (not (anyAcceleration s)) _ _ _ _ (of-refusal numbers refusal.NoRun)
-      (step (decided numbers) (ltb (lowestNoWindow (sheetSession s)) 16) _ _ _ _ (of-refusal numbers (refusal.NoWindow _ _))
-      (step (decided numbers) (ltb (firstNotFalling (gearsOf (sheetSession s))) (length (gearsOf (sheetSession s)) - 1)) _ _ _ _ (of-refusal numbers (refusal.NotFalling _)) (after-choice numbers (referenceIn s) limit (sheetSession s) (choiceIn s)))))
+      (step (λ (w : WithoutWindow). decided numbers (unlessWithout w gears)) (ltb (lowestNoWindow t) 16) _ _ _ _ (of-refusal numbers (refusal.NoWindow _ _))
+      (step (decided numbers) (ltb (firstNotFalling (gearsOf t)) (length (gearsOf t) - 1)) _ _ _ _ (of-refusal numbers (refusal.NotFalling _)) (after-choice numbers (referenceIn s) limit t (choiceIn s)))))
 
   with-limit : Limit → Told
   with-limit l = decided numbers (decideLimited (sheetSession s) (pmrIn s) l)

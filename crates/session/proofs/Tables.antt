@@ -8,7 +8,7 @@ use native.Mathlib.Omega.{arith}
 use lib.ListN.{length, take, set, replicate, length-map, length-append}
 use lib.Seq.{set-at, take-at, append-snoc}
 use lib.Dec.{ltb}
-use borrow.Author.Tests.{lt-ltb, le-ltb, ltb-true, ltb-false}
+use borrow.Author.Tests.{lt-ltb, le-ltb, ltb-false}
 use Rattle.units.proofs.Lowest.{found}
 use Rattle.units.proofs.Tests.{by-test}
 use Rattle.refusal.specs.declared.Shortage.{Shortage}
@@ -114,9 +114,14 @@ no-window-most : (t : Session) → lowestNoWindow t ≤ 16
 unfolding lowestNoWindow
 no-window-most t = found (λ p. hasNoWindow (stateOf t (p + 1))) 16 0 .most
 
--- a gear without a window has the shortage of its valid runs
-pub shortage-is : (t : Session) (gear : ℕ) (x : Shortage) → stateOf t gear ≡ NoWindow x → x ≡ shortageIn t 2 gear
-unfolding stateOf byWindow windowOf
+-- a window that is missing, of either run kind, has the shortage of its valid runs
+pub missing-is : (t : Session) (kind gear : ℕ) (x : Shortage) → windowIn t kind gear ≡ window.Nothing x → x ≡ shortageIn t kind gear
+unfolding windowOf
+missing-is t kind gear x e = none-is _ x e .0
+
+-- so has a gear without an acceleration window
+shortage-is : (t : Session) (gear : ℕ) (x : Shortage) → stateOf t gear ≡ NoWindow x → x ≡ shortageIn t 2 gear
+unfolding stateOf byWindow
 shortage-is t gear x =
     by-test (λ (y : State). y ≡ NoWindow x → x ≡ shortageIn t 2 gear) (hasAcceleration (t .sheet) gear) _ _
     (λ h e. by-window (windowIn t 2 gear) refl e)
@@ -130,7 +135,7 @@ shortage-is t gear x =
         e
     by-window (window.Nothing y) p e =
         let same : y ≡ x = cc in
-        sym same ∙ none-is _ y p .0
+        sym same ∙ missing-is t 2 gear y p
 
 -- the lowest gear without a window is at place p, or there is none
 pub without-at : (t : Session) (p : ℕ) (x : Shortage) → lowestNoWindow t ≡ p → p < 16 → stateOf t (p + 1) ≡ NoWindow x → without.Gear (p + 1) x ≡ withoutWindow t
@@ -152,23 +157,16 @@ pub record Tabled (t : Session) (r : Table) : Type 0 where
   pub without-window : r .«without_window» ≡ withoutWindow t
   pub few : r .count ≤ 16
   pub counted : length (gearsIn r) ≡ r .count
-  pub gears : 16 ≤ lowestNoWindow t → gearsIn r ≡ gearsOf t
-  pub windows : 16 ≤ lowestNoWindow t → windowsIn r ≡ windowsOf t
+  pub gears : withoutWindow t ≡ without.NoGear → gearsIn r ≡ gearsOf t
+  pub windows : withoutWindow t ≡ without.NoGear → windowsIn r ≡ windowsOf t
 
--- it names a gear, or every gear with an acceleration run has a window
-pub gear-named : (t : Session) (gear : ℕ) (x : Shortage) → withoutWindow t ≡ without.Gear gear x → (lowestNoWindow t < 16) × (gear ≡ lowestNoWindow t + 1) × (x ≡ shortageIn t 2 (lowestNoWindow t + 1))
+-- where it names no gear, the search for the lowest went through all 16 places
+all-places : (t : Session) → withoutWindow t ≡ without.NoGear → lowestNoWindow t ≡ 16
 unfolding withoutWindow
-gear-named t gear x =
-    by-test (λ (w : WithoutWindow). w ≡ without.Gear gear x → (lowestNoWindow t < 16) × (gear ≡ lowestNoWindow t + 1) × (x ≡ shortageIn t 2 (lowestNoWindow t + 1))) (ltb (lowestNoWindow t) 16) _ _
-    (λ l e. (ltb-true (lowestNoWindow t) 16 l, cc, cc))
+all-places t =
+    by-test (λ (w : WithoutWindow). w ≡ without.NoGear → lowestNoWindow t ≡ 16) (ltb (lowestNoWindow t) 16) _ _
     (λ l e. absurd (let z : _≡_ {A = ℕ} 0 1 = cc in omega arith))
-
-pub no-gear-named : (t : Session) → withoutWindow t ≡ without.NoGear → 16 ≤ lowestNoWindow t
-unfolding withoutWindow
-no-gear-named t =
-    by-test (λ (w : WithoutWindow). w ≡ without.NoGear → 16 ≤ lowestNoWindow t) (ltb (lowestNoWindow t) 16) _ _
-    (λ l e. absurd (let z : _≡_ {A = ℕ} 0 1 = cc in omega arith))
-    (λ l e. ltb-false (lowestNoWindow t) 16 l)
+    (λ l e. le-antisymm (no-window-most t) (ltb-false (lowestNoWindow t) 16 l))
 
 front-of : {A : Type 0} (filler : A) (part : Entry → A) (entries : List Entry) → take (length entries) (stored filler (map part entries)) ≡ map part entries
 front-of filler part entries = ap (λ (n : ℕ). take n (stored filler (map part entries))) (sym (length-map entries part)) ∙ taken filler (map part entries)
@@ -180,9 +178,6 @@ tabled t =
       without-window = refl;
       few = omega (arith, few-remain t 0 (lowestNoWindow t), no-window-most t);
       counted = ap length (front-of emptyGear (λ e. e .gear) (entriesOf t)) ∙ length-map (entriesOf t) (λ e. e .gear);
-      gears = λ h. front-of emptyGear (λ e. e .gear) (entriesOf t) ∙ rw (all h);
-      windows = λ h. front-of emptyFour (λ e. e .window) (entriesOf t) ∙ rw (all h);
+      gears = λ h. front-of emptyGear (λ e. e .gear) (entriesOf t) ∙ rw (all-places t h);
+      windows = λ h. front-of emptyFour (λ e. e .window) (entriesOf t) ∙ rw (all-places t h);
     }
-  where
-    all : 16 ≤ lowestNoWindow t → lowestNoWindow t ≡ 16
-    all h = le-antisymm (no-window-most t) h

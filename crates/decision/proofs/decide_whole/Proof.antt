@@ -9,7 +9,7 @@ use borrow.Author.Tests.{ltb-false, not-true, not-false}
 use Rattle.units.proofs.Tests.{neither}
 use Rattle.sheet.specs.Sheet.{anyAcceleration}
 use Rattle.session.specs.Session.{Session, sessionOf}
-use Rattle.session.proofs.Tables.{Tabled, no-gear-named, tabled}
+use Rattle.session.proofs.Tables.{Tabled, tabled}
 use Rattle.decision.proofs.Decisions.{row-6, row-7-none, row-7-gear, rows-8-to-10, same-decision}
 use Rattle.decision.proofs.decide_whole.Statement.{statement}
 use Rattle.decision.proofs.decide_whole.Tie as tie
@@ -77,9 +77,8 @@ returns-4 c =
     let e = t .before in
     let s = e .before .before .before .before in
     let none = sym (tabled-here t .without-window) ∙ c .before .before .enum-told .given .1 in
-    let all = no-gear-named (session s) none in
     c .decide-table .ensures
-    ∙ same-decision (s .args .limit) (c .before .reference-at .ensures) refl (tabled-here t .gears all) (tabled-here t .windows all)
+    ∙ same-decision (s .args .limit) (c .before .reference-at .ensures) refl (tabled-here t .gears none) (tabled-here t .windows none)
     ∙ sym (rows-8-to-10 (session s) (s .args .pmr) _ (e .before .before .if1 .left) (any e) none)
 
 pub decide-whole-spec : {M : Type 1} → statement M
