@@ -97,7 +97,7 @@ decideGears r limit t gs ws =
     cond (ltb (firstNotFalling gs) (length gs - 1)) (Refused (refusal.NotFalling (gearAt gs (firstNotFalling gs) .number)))
     (finishBy r limit (selectedIn t gs ws (choiceOf r gs)))
 
--- row 7 for a gear without an acceleration window, by its shortage; where there is none such, what the other rows give
+-- row 7 for a gear that has acceleration runs and no window, by its shortage; where there is no such gear, what the rows after it give
 unfoldable pub unlessWithout : WithoutWindow → Decision → Decision
 unlessWithout (without.Gear gear shortage) d = Refused (refusal.NoWindow gear shortage)
 unlessWithout without.NoGear d = d
