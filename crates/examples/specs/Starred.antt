@@ -85,17 +85,18 @@ choiceGives (choice.One rule p) = rule ∷ (p + 1) ∷ []
 choiceGives (choice.Pair rule p) = rule ∷ (p + 1) ∷ (p + 2) ∷ []
 choiceGives choice.Nothing = []
 
-abbrev pub evaluationGives : List ℕ → Answer → List ℕ
-evaluationGives s answer.Accepted = sheetBackgrounds s .left .0 ∷ sheetBackgrounds s .right .0 ∷ number (bufferOf s (replicate 32 0)) 8 2 ∷ []
-evaluationGives s (answer.Refused r) = numberOf r ∷ placeOf r ∷ []
+-- of a sheet, by the answer and the bytes of the result buffer
+abbrev pub evaluationGives : List ℕ → Answer → List ℕ → List ℕ
+evaluationGives s answer.Accepted b = sheetBackgrounds s .left .0 ∷ sheetBackgrounds s .right .0 ∷ number b 8 2 ∷ []
+evaluationGives s (answer.Refused r) b = numberOf r ∷ placeOf r ∷ []
 
 abbrev pub limitGives : Limit → List ℕ
 limitGives (limits.Found n) = n ∷ []
 limitGives (limits.Refused r) = []
 
-abbrev pub limitAndPassGives : List ℕ → Answer → List ℕ
-limitAndPassGives s answer.Accepted = limitGives (sheetLimit s) ++ (byte (bufferOf s (replicate 32 0)) 5 ∷ [])
-limitAndPassGives s (answer.Refused r) = numberOf r ∷ placeOf r ∷ []
+abbrev pub limitAndPassGives : List ℕ → Answer → List ℕ → List ℕ
+limitAndPassGives s answer.Accepted b = limitGives (sheetLimit s) ++ (byte b 5 ∷ [])
+limitAndPassGives s (answer.Refused r) b = numberOf r ∷ placeOf r ∷ []
 
 abbrev pub gives : Example → List ℕ
 gives (tenths pattern n) = tenthsOf (ofBits binary32 pattern) ∷ []
@@ -106,8 +107,8 @@ gives (accelerated path start end n) = accelerationOf start end path ∷ []
 gives (chosen R u accelerations numbers) = choiceGives (choiceOf (referred 0 u R) (gearsWith accelerations))
 gives (powered q u a w c kp) = lUrbanOf (referred q u 0) a w c .kp ∷ []
 gives (printed s line) = lineOfSheet s
-gives (evaluated s numbers) = evaluationGives s (answerOf s 32)
-gives (limitAndPass s numbers) = limitAndPassGives s (answerOf s 32)
+gives (evaluated s numbers) = evaluationGives s (answerOf s 32) (bufferOf s (replicate 32 0))
+gives (limitAndPass s numbers) = limitAndPassGives s (answerOf s 32) (bufferOf s (replicate 32 0))
 
 abbrev pub shouldGive : Example → List ℕ
 shouldGive (tenths pattern n) = n ∷ []
@@ -263,6 +264,10 @@ withPower s power mass = sets s 4 (bytesOf 2 power ++ bytesOf 2 mass)
 abbrev pub oneGear : List ℕ
 oneGear = sidedSheet 0 400 0
 
+-- A sheet without runs. It is refused with 7 at 0, unless a row before row 7 refuses it.
+abbrev pub noRuns : List ℕ
+noRuns = vehicle 0 ++ closing 0 400 0
+
 -- the worked line with 0 for pass
 abbrev pub failedLine : List ℕ
 failedLine = sets workedLine 42 (48 ∷ [])
@@ -283,23 +288,23 @@ limited =
     ∷ limitAndPass (withPower (limitZero oneGear 2 1) 1601 800) (74 ∷ 1 ∷ [])
     -- N1, whatever bytes 16 and 17 hold, also below PMR 5.0; with a written limit it has one
     ∷ limitAndPass (asN1 (limitZero workedSheet 9 7)) (11 ∷ 0 ∷ [])
-    ∷ limitAndPass (asN1 (limitZero workedSheet 1 0)) (11 ∷ 0 ∷ [])
-    ∷ limitAndPass (withPower (asN1 (limitZero workedSheet 1 0)) 74 1500) (11 ∷ 0 ∷ [])
-    ∷ limitAndPass (asN1 workedSheet) (72 ∷ 1 ∷ [])
+    ∷ limitAndPass (asN1 (limitZero noRuns 1 0)) (11 ∷ 0 ∷ [])
+    ∷ limitAndPass (withPower (asN1 (limitZero noRuns 1 0)) 74 1500) (11 ∷ 0 ∷ [])
+    ∷ limitAndPass (asN1 oneGear) (72 ∷ 1 ∷ [])
     -- phase 0, phase 4, 2 in byte 17, and phase 0 also below PMR 5.0; then PMR 4.9 itself
-    ∷ limitAndPass (limitZero workedSheet 0 0) (12 ∷ 0 ∷ [])
-    ∷ limitAndPass (limitZero workedSheet 4 0) (12 ∷ 0 ∷ [])
-    ∷ limitAndPass (limitZero workedSheet 1 2) (12 ∷ 0 ∷ [])
-    ∷ limitAndPass (withPower (limitZero workedSheet 0 0) 74 1500) (12 ∷ 0 ∷ [])
-    ∷ limitAndPass (withPower (limitZero workedSheet 1 0) 74 1500) (6 ∷ 0 ∷ [])
+    ∷ limitAndPass (limitZero noRuns 0 0) (12 ∷ 0 ∷ [])
+    ∷ limitAndPass (limitZero noRuns 4 0) (12 ∷ 0 ∷ [])
+    ∷ limitAndPass (limitZero noRuns 1 2) (12 ∷ 0 ∷ [])
+    ∷ limitAndPass (withPower (limitZero noRuns 0 0) 74 1500) (12 ∷ 0 ∷ [])
+    ∷ limitAndPass (withPower (limitZero noRuns 1 0) 74 1500) (6 ∷ 0 ∷ [])
     -- a run of gear 0, record 3: the layout is asked first
-    ∷ limitAndPass (sets (asN1 (limitZero workedSheet 9 7)) 97 (0 ∷ [])) (5 ∷ 3 ∷ [])
+    ∷ limitAndPass (sets (asN1 (limitZero oneGear 9 7)) 97 (0 ∷ [])) (5 ∷ 3 ∷ [])
     -- a written limit with byte 16 or 17 set; limits 49, 101 and 256
-    ∷ limitAndPass (sets workedSheet 16 (1 ∷ [])) (5 ∷ 0 ∷ [])
-    ∷ limitAndPass (sets workedSheet 17 (1 ∷ [])) (5 ∷ 0 ∷ [])
-    ∷ limitAndPass (sets workedSheet 14 (49 ∷ 0 ∷ [])) (5 ∷ 0 ∷ [])
-    ∷ limitAndPass (sets workedSheet 14 (101 ∷ 0 ∷ [])) (5 ∷ 0 ∷ [])
-    ∷ limitAndPass (sets workedSheet 14 (0 ∷ 1 ∷ 1 ∷ 0 ∷ [])) (5 ∷ 0 ∷ [])
+    ∷ limitAndPass (sets noRuns 16 (1 ∷ [])) (5 ∷ 0 ∷ [])
+    ∷ limitAndPass (sets noRuns 17 (1 ∷ [])) (5 ∷ 0 ∷ [])
+    ∷ limitAndPass (sets noRuns 14 (49 ∷ 0 ∷ [])) (5 ∷ 0 ∷ [])
+    ∷ limitAndPass (sets noRuns 14 (101 ∷ 0 ∷ [])) (5 ∷ 0 ∷ [])
+    ∷ limitAndPass (sets noRuns 14 (0 ∷ 1 ∷ 1 ∷ 0 ∷ [])) (5 ∷ 0 ∷ [])
     ∷ []
 
 -- ---- a gear without a window
