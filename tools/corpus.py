@@ -118,7 +118,7 @@ def print_groups(found, answers):
         groups.setdefault(name, Counter())[answer] += 1
         totals[answer] += 1
     for name, counts in (*groups.items(), ("all", totals)):
-        print(f"{name:<28}{counts.total():>6}  " + ", ".join(f"{answer} {counts[answer]}" for answer in answers if counts[answer]))
+        print(f"{name:<36}{counts.total():>6}  " + ", ".join(f"{answer} {counts[answer]}" for answer in answers if counts[answer]))
     return totals
 
 
@@ -140,7 +140,7 @@ FEATURES = {
     "16 gears": lambda _, sheet: len({record[1] for record in records_of(sheet)[1:-1] if record[0] == 2}) == 16,
 }
 
-OUTCOMES = [f"rule {n}" for n in range(1, 6)] + [f"refusal {n}" for n in range(2, 13)]
+OUTCOMES = [f"rule {n}" for n in range(1, 6)] + [f"refusal {n}" for n in (*range(2, 13), 14, 15)]
 ENTRIES_OF_LIMITS = 12  # of the table of document 02, wish 1
 
 

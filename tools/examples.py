@@ -1,5 +1,5 @@
 #!/usr/bin/env python3
-"""Document 01's driven examples, those of document 02's wishes 1, 2 and 8, and each line of "Where the spreadsheet tempts".
+"""Document 01's driven examples, those of document 02's wishes 1, 2, 5 and 8, and each line of "Where the spreadsheet tempts".
 
     python3 tools/examples.py                prints each example; fails if the reckoner's answer is not the paper's
     python3 tools/examples.py --write DIR    writes stdout of the test program `driven`
@@ -14,10 +14,11 @@ import sys
 from fractions import Fraction
 
 import reckon
-from reckon import ACCELERATION_RUN, CONSTANT_RUN, M1, N1, a_ref_of, a_urban_of, corrected, line, rounded
+from reckon import ABSENT, ACCELERATION_RUN, CONSTANT_RUN, M1, N1, OVERLOAD, a_ref_of, a_urban_of, corrected, line, rounded
 from sheets import decibels, run, sheet, speeds_for, tenths, vehicle, worked_runs, worked_sheet
 
 STAR = "★ "
+WORKED_LINE = "OK 3 3 4 78 29 719 658 70 106 149 667 149 1"  # of document 01's whole sheet
 
 
 def tenths_of_text(text):
@@ -78,6 +79,41 @@ def sides_sheet(right_before=0, right_after=0, left_after=400):
 def worked_with(limit=0, runs=None, **fields):
     """Document 01's whole sheet with a limit that is looked up, or another one, and other fields of the vehicle."""
     return sheet(vehicle(limit=limit, **fields), worked_runs() if runs is None else runs)
+
+
+def with_left(one, words):
+    """A copy of a run with another left reading, in words: `66.0`, `overload 66.0` or `absent`; `struck 66.0` strikes the run."""
+    *how, level = words.split()
+    if level == "absent":
+        return one[:3] + bytes([ABSENT]) + one[4:8] + bytes(4) + one[12:]
+    struck, kind = one[2:3], one[3:4]
+    if how == ["struck"]:
+        struck = b"\x01"
+    elif how == ["overload"]:
+        kind = bytes([OVERLOAD])
+    return one[:2] + struck + kind + one[4:8] + decibels(level) + one[12:]
+
+
+def runs_with(kind, gear, lefts):
+    """Runs with a list of left readings in words; all else is as in document 01's whole sheet, as there in gear 4 for a gear without runs."""
+    worked = {(one[0], one[1]): one for one in worked_runs()}
+    like = worked.get((kind, gear), worked[kind, 4])
+    return [with_left(like[:1] + bytes([gear]) + like[2:], words) for words in lefts.split(", ") if words]
+
+
+def worked_but(acceleration, constant, **fields):
+    """Document 01's whole sheet with other runs of some gears: for each gear the left readings of its runs of a kind."""
+    other = {(kind, gear): runs_with(kind, gear, lefts)
+             for kind, gears in ((ACCELERATION_RUN, acceleration), (CONSTANT_RUN, constant)) for gear, lefts in gears.items()}
+    kept = [one for one in worked_runs() if (one[0], one[1]) not in other]
+    return sheet(vehicle(**fields), kept + [one for runs in other.values() for one in runs])
+
+
+def mirrored(whole):
+    """A sheet without a background of its own on the right, with the readings of each run exchanged."""
+    first, *runs, last = reckon.records_of(whole)
+    exchanged = [one[:3] + one[4:5] + one[3:4] + one[5:8] + one[12:16] + one[8:12] + one[16:] for one in runs]
+    return first + b"".join(exchanged) + last
 
 
 # Each example: what the paper says, in words; the paper's answer; the reckoner's answer.
@@ -142,7 +178,7 @@ def pick(whole, *names):
 def whole_sheets():
     yield "one closing record alone: refusal 3", "REFUSED 3 0", line(worked_sheet()[-32:])
     yield "one vehicle record alone: refusal 4", "REFUSED 4 0", line(worked_sheet()[:32])
-    yield STAR + "whole sheet", "OK 3 3 4 78 29 719 658 70 106 149 667 149 1", line(worked_sheet())
+    yield STAR + "whole sheet", WORKED_LINE, line(worked_sheet())
 
 
 def sides_line(C):
@@ -223,7 +259,108 @@ def limits():
         yield f"{words} (document 02)", paper, line(whole)
 
 
-EXAMPLES = (roundings, corrections, windows, references, accelerations, gear_rules, whole_sheets, sides, limits)
+# Wish 5: the paper's line, and the left readings of gears in acceleration and at constant speed, otherwise as in document 01's
+# whole sheet, where gears 3 and 4 are chosen.
+SHORTAGES = (
+    # four or more valid runs at constant speed, and the lowest chosen gear without a window decides
+    ("REFUSED 15 3", {}, {3: "66.0, 68.1, 66.0, 68.1"}),
+    ("REFUSED 15 3", {}, {3: "66.0, 68.1, 66.0, 68.1", 4: "65.0, 65.0, 65.0"}),
+    ("REFUSED 15 3", {}, {3: "66.0, 68.1, 66.0, 68.1", 4: "65.0, 67.1, 65.0, 67.1"}),
+    ("REFUSED 10 3", {}, {3: "66.0, 66.0, 66.0", 4: "65.0, 67.1, 65.0, 67.1"}),
+    ("REFUSED 10 3", {}, {3: "66.0, 66.0, 66.0", 4: "65.0, 65.0, 65.0"}),
+    ("REFUSED 10 3", {}, {3: "66.0, 66.0, 66.0"}),
+    ("REFUSED 15 4", {}, {4: "65.0, 67.1, 65.0, 67.1"}),
+    ("REFUSED 10 4", {}, {4: "65.0, 65.0, 65.0"}),
+    ("REFUSED 10 3", {}, {3: ""}),
+    ("REFUSED 10 4", {}, {4: ""}),
+    ("REFUSED 10 3", {}, {3: "", 4: ""}),
+    # 2.0 is a window: C is 65.2 + 0.78 x (67.0 - 65.2), rounded 66.6; L_urban is 71.9 - 0.29 x (71.9 - 66.6), 70.363
+    ("OK 3 3 4 78 29 719 666 70 106 149 667 149 1", {}, {3: "66.0, 68.0, 66.0, 68.0"}),
+    # neighbours only, however many runs there are
+    ("REFUSED 15 3", {}, {3: "66.0, 66.0, 70.0, 66.0, 66.0"}),
+    ("REFUSED 15 3", {}, {3: "66.0, 66.0, 66.0, 70.0, 66.0, 66.0, 66.0"}),
+    ("REFUSED 15 3", {}, {3: ", ".join(("66.0", "68.1") * 8)}),
+    ("REFUSED 15 3", {}, {3: ", ".join(("66.0", "68.1") * 10)}),
+    (WORKED_LINE, {}, {3: ", ".join(("63.9", "68.1") * 8 + ("66.0",) * 4)}),
+    (WORKED_LINE, {}, {3: ", ".join(("68.1", "63.9") * 6 + ("68.1",) + ("66.0",) * 4)}),
+    # runs that are not valid: 49.9 is 9.9 above the background, 50.0 is 10.0 above it
+    ("REFUSED 10 3", {}, {3: "66.0, 68.1, struck 66.0, 68.1"}),
+    ("REFUSED 10 3", {}, {3: "66.0, 68.1, overload 66.0, 68.1"}),
+    ("REFUSED 10 3", {}, {3: "66.0, 68.1, absent, 68.1"}),
+    ("REFUSED 10 3", {}, {3: "66.0, 68.1, 49.9, 68.1"}),
+    ("REFUSED 15 3", {}, {3: "66.0, 68.1, 50.0, 68.1"}),
+    ("REFUSED 15 3", {}, {3: "66.0, 68.1, struck 66.0, 66.0, 68.1"}),
+    ("REFUSED 10 3", {}, {3: "struck 66.0, 66.0, overload 66.0, absent, 66.0, 49.9, 66.0, struck 66.0"}),
+    # gears 2 and 5 are not chosen
+    (WORKED_LINE, {}, {2: "66.0, 68.1, 66.0, 68.1", 5: "66.0, 68.1, 66.0, 68.1"}),
+    (WORKED_LINE, {}, {2: "66.0, 66.0, 66.0"}),
+    ("REFUSED 10 3", {}, {2: "66.0, 68.1, 66.0, 68.1", 3: "66.0, 66.0, 66.0"}),
+    ("REFUSED 15 3", {}, {2: "66.0, 66.0, 66.0", 3: "66.0, 68.1, 66.0, 68.1"}),
+    # no acceleration run at all
+    ("REFUSED 7 0", {2: "", 3: "", 4: ""}, {}),
+    ("REFUSED 7 0", {2: "", 3: "", 4: ""}, {3: "", 4: ""}),
+    ("REFUSED 7 0", {2: "", 3: "", 4: ""}, {3: "66.0, 68.1, 66.0, 68.1"}),
+    # the lowest gear without an acceleration window decides
+    ("REFUSED 14 2", {2: "74.0, 76.1, 74.0, 76.1", 3: "72.5, 72.5, 72.5"}, {}),
+    ("REFUSED 7 2", {2: "74.0, 74.0, 74.0", 3: "72.5, 74.6, 72.5, 74.6"}, {}),
+    ("REFUSED 14 2", {2: "74.0, 76.1, 74.0, 76.1", 4: ""}, {}),
+    ("REFUSED 14 3", {3: "72.5, 74.6, 72.5, 74.6", 4: "70.1, 72.2, 70.1, 72.2"}, {}),
+    ("REFUSED 14 3", {3: "72.5, 74.6, 72.5, 74.6", 5: "struck 70.1"}, {}),
+    ("REFUSED 7 3", {3: "72.5, 72.5, 72.5", 4: "70.1, 72.2, 70.1, 72.2"}, {}),
+    ("REFUSED 14 4", {4: "70.1, 72.2, 70.1, 72.2"}, {}),
+    ("REFUSED 7 4", {4: "70.1, 70.1, 70.1"}, {}),
+    ("REFUSED 7 5", {5: "struck 70.1, struck 70.1, struck 70.1, struck 70.1, struck 70.1, struck 70.1"}, {}),
+    ("REFUSED 7 1", {1: "struck 70.1", 3: "72.5, 74.6, 72.5, 74.6"}, {}),
+    ("REFUSED 14 1", {1: "70.1, 72.2, 70.1, 72.2", 2: "struck 70.1"}, {}),
+    # 2.0 is a window: W is 70.1 + 0.78 x (73.5 - 70.1), rounded 72.8; L_urban is 72.8 - 0.29 x (72.8 - 65.8), 70.77
+    ("OK 3 3 4 78 29 728 658 71 106 149 667 149 1", {3: "72.5, 74.5, 72.5, 74.5"}, {}),
+    ("REFUSED 14 3", {3: "72.5, 73.2, 73.9, 74.6"}, {}),
+    ("REFUSED 14 3", {3: "72.5, 72.5, 75.0, 72.5, 72.5"}, {}),
+    ("REFUSED 14 3", {3: ", ".join(("72.5", "74.6") * 8 + ("72.5",))}, {}),
+    ("REFUSED 14 3", {3: ", ".join(("72.5", "74.6") * 9 + ("72.5",))}, {}),
+    ("REFUSED 7 3", {3: "72.5, 74.6, struck 72.5, 74.6"}, {}),
+    ("REFUSED 7 3", {3: "72.5, 74.6, overload 72.5, 74.6"}, {}),
+    ("REFUSED 7 3", {3: "72.5, 74.6, absent, 74.6"}, {}),
+    ("REFUSED 7 3", {3: "72.5, 74.6, 49.9, 74.6"}, {}),
+    ("REFUSED 14 3", {3: "72.5, 74.6, 50.0, 74.6"}, {}),
+    ("REFUSED 14 3", {3: "72.5, 74.6, struck 72.5, 72.5, 74.6"}, {}),
+    ("REFUSED 7 3", {3: "overload 72.5, overload 72.5, overload 72.5, overload 72.5"}, {}),
+    # a gear without an acceleration window comes before one without a constant-speed window
+    ("REFUSED 14 3", {3: "72.5, 74.6, 72.5, 74.6"}, {3: "66.0, 68.1, 66.0, 68.1"}),
+    ("REFUSED 7 4", {4: "70.1, 70.1, 70.1"}, {3: "66.0, 68.1, 66.0, 68.1"}),
+    ("REFUSED 14 4", {4: "70.1, 72.2, 70.1, 72.2"}, {3: "66.0, 66.0, 66.0"}),
+)
+
+
+def in_words(acceleration, constant):
+    """The runs that are not those of the whole sheet."""
+    parts = [f"{kind} of gear {gear} {lefts or 'none'}" for kind, gears in (("acceleration", acceleration), ("constant speed", constant))
+             for gear, lefts in gears.items()]
+    return "; ".join(parts)
+
+
+def shortages():
+    """Wish 5: in words, the paper's line, and the sheet."""
+    for paper, acceleration, constant in SHORTAGES:
+        yield in_words(acceleration, constant), paper, worked_but(acceleration, constant)
+    wide = {3: "72.5, 74.6, 72.5, 74.6"}
+    yield "gear 3 too wide on the right in acceleration", "REFUSED 14 3", mirrored(worked_but(wide, {}))
+    yield "gear 3 too wide on the right at constant speed", "REFUSED 15 3", mirrored(worked_but({}, {3: "66.0, 68.1, 66.0, 68.1"}))
+    # on the right, 71.5 is 9.5 above the background and 74.0 is 12.0 above it
+    yield "gear 3 too wide, right background 62.0", "REFUSED 7 3", worked_but(wide, {}, right_background=620)
+    yield "gear 5 too wide, all engine speeds above S", "REFUSED 14 5", worked_but({5: "70.1, 72.2, 70.1, 72.2"}, {}, rated_speed=3999)
+    # gear 5 accelerates as gear 4 does
+    yield "gear 5 too wide beside gear 4", "REFUSED 14 5", worked_but({5: "70.1, 72.2, 70.1, 72.2"}, {})
+    yield "gear 5 as gear 4", "REFUSED 8 4", worked_but({5: "70.1, 70.1, 70.1, 70.1"}, {3: "66.0, 68.1, 66.0, 68.1"})
+    yield "gear 3 too wide, PMR 4.9", "REFUSED 6 0", worked_but(wide, {}, power=49, mass=1000)
+
+
+def kinds_of_shortage():
+    for words, paper, whole in shortages():
+        yield f"{words} (document 02)", paper, line(whole)
+
+
+EXAMPLES = (roundings, corrections, windows, references, accelerations, gear_rules, whole_sheets, sides, limits, kinds_of_shortage)
 
 
 # Each temptation: in words; the paper's answer; the reckoner's; and what the spreadsheet would say.
@@ -244,12 +381,12 @@ def tempted_sum_of_sides():
     alike = side_sheet((700, 720, 720, 720), (700, 720, 720, 720))
     opposed = side_sheet((700, 721, 721, 721), (721, 700, 700, 700))
     yield "each side spans 2.0, alike (the sum spans 4.0): a window", "OK", line(alike).split()[0], "no window"
-    yield "each side spans 2.1, opposed (the sum spans 0): no window", "REFUSED 7 3", line(opposed), "a window"
+    yield "each side spans 2.1, opposed (the sum spans 0): no window", "REFUSED 14 3", line(opposed), "a window"
 
 
 def tempted_any_four():
     levels = (700, 700, 750, 700, 700)
-    yield "70, 70, 75, 70, 70: no window", "REFUSED 7 3", line(side_sheet(levels, levels)), "a window"
+    yield "70, 70, 75, 70, 70: no window", "REFUSED 14 3", line(side_sheet(levels, levels)), "a window"
 
 
 TEMPTATIONS = (tempted_negative_half, tempted_a_ref, tempted_sum_of_sides, tempted_any_four)
@@ -311,7 +448,7 @@ def sheet_answers():
     """The sheets of the examples, each with the paper's line where it gives one, or with a part of it."""
     yield worked_sheet()[-32:], "REFUSED 3 0"
     yield worked_sheet()[:32], "REFUSED 4 0"
-    yield worked_sheet(), "OK 3 3 4 78 29 719 658 70 106 149 667 149 1"
+    yield worked_sheet(), WORKED_LINE
     # W is the mean of runs 2 to 5, 71.275, and of runs 1 to 4, 71.0
     yield level_sheet("70.0", "72.1", "71.0", "71.0", "71.0"), "OK 1 3 0 100 29 713 650"
     yield level_sheet("70.0", "72.0", "71.0", "71.0", "71.0"), "OK 1 3 0 100 29 710 650"
@@ -329,9 +466,9 @@ def sheet_answers():
     yield gears_sheet((3, 100, 650, 660)), "OK 1 3 0 100 100 650 660 66 106 149 667 100 1"
     yield gears_sheet((2, 169, 700, 650), (3, 129, 701, 650)), "OK 3 2 3 50 29 701 650"
     yield side_sheet((700, 720, 720, 720), (700, 720, 720, 720)), "OK 1 3"
-    yield side_sheet((700, 721, 721, 721), (721, 700, 700, 700)), "REFUSED 7 3"
-    yield level_sheet("70.0", "70.0", "75.0", "70.0", "70.0"), "REFUSED 7 3"
-    for _, paper, whole in (*backgrounds(), *limits_by_class(), *look_ups()):
+    yield side_sheet((700, 721, 721, 721), (721, 700, 700, 700)), "REFUSED 14 3"
+    yield level_sheet("70.0", "70.0", "75.0", "70.0", "70.0"), "REFUSED 14 3"
+    for _, paper, whole in (*backgrounds(), *limits_by_class(), *look_ups(), *shortages()):
         yield whole, paper
 
 

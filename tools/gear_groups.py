@@ -1,4 +1,4 @@
-"""Groups of the corpus about the gear rules, the weighing factors and L_urban: refusals 8 to 10."""
+"""Groups of the corpus about the gear rules, the weighing factors and L_urban: refusals 8 to 10 and 15."""
 
 from fractions import Fraction
 
@@ -43,7 +43,7 @@ def no_rule(random):
 
 
 def no_constant_window(random):
-    """Refusal 10 for one gear, for i, for j and for both."""
+    """Refusals 10 and 15 for one gear, for i, for j and for both."""
     for at in range(75):
         q = random.pick(QUIET_PMRS + USUAL_PMRS[:7])
         car = car_of(random, q, background=400)

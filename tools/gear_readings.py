@@ -5,7 +5,7 @@ from fractions import Fraction
 
 import reckon
 from misread import PAPER, Single, answers, by_edit, by_floats, edited, for_rule, simple
-from reckon import ACCELERATION_RUN, CEILING, CONSTANT_RUN, CONSTANT_SPEED_PMR, ValidRun, rounded
+from reckon import ACCELERATION_RUN, CEILING, CONSTANT_RUN, CONSTANT_SPEED_PMR, NO_WINDOW, ValidRun, rounded
 
 # PMR, a_urban and a_ref.
 
@@ -135,7 +135,7 @@ def struck_gears_forgotten(runs, vehicle):
 
 
 def dropped_gears_forgotten(runs, vehicle):
-    """A gear with an engine speed above S and no window is dropped before refusal 7."""
+    """A gear with an engine speed above S and no window is dropped before refusals 7 and 14."""
     fast = {run.gear for run in runs if run.kind == ACCELERATION_RUN and run.engine_speed > vehicle.rated_speed}
     lost = {gear for gear in fast if reckon.find_window(runs, vehicle, ACCELERATION_RUN, gear) is None}
     return PAPER["acceleration_windows"]([run for run in runs if run.gear not in lost], vehicle)
@@ -177,8 +177,8 @@ GEARS = simple(
      "    for gear in reversed(gears):\n"),
     ("the first gear driven without a window is named", "acceleration_windows", "    for gear in gears:\n",
      "    for gear in dict.fromkeys(run.gear for run in runs if run.kind == ACCELERATION_RUN):\n"),
-    ("refusal 7 names the gear by its place among the gears", "acceleration_windows", "Refused(7, gear)",
-     "Refused(7, gears.index(gear) + 1)"),
+    ("refusals 7 and 14 name the gear by its place among the gears", "acceleration_windows", "gear), gear)",
+     "gear), gears.index(gear) + 1)"),
     ("gears without a window are left out", "acceleration_windows", "    for gear in gears:\n",
      "    windows = {gear: four for gear, four in windows.items() if four}\n    for gear in windows:\n"),
     ("the lowest gear alone needs a window", "acceleration_windows", "    for gear in gears:\n",
@@ -364,7 +364,7 @@ def spared(condition):
     """Where a condition holds of the evaluation, no constant-speed window is asked."""
     def evaluate(sheet):
         answer = PAPER["evaluate"](sheet)
-        if answer[:2] == ("REFUSED", 10):
+        if answer[0] == "REFUSED" and answer[1] in NO_WINDOW[CONSTANT_RUN]:
             paper, reckon.constant_windows = reckon.constant_windows, without_refusal
             try:
                 other = PAPER["reckon"](sheet)
@@ -392,9 +392,9 @@ SPARED = [(f"no constant-speed window is asked {words}", spared(condition)) for 
 CONSTANT = by_edit(
     ("the higher chosen gear without a constant-speed window is named", "constant_windows", "sorted(chosen)",
      "sorted(chosen, reverse=True)"),
-    ("refusal 10 names the chosen gear's place", "constant_windows", "Refused(10, gear)", "Refused(10, chosen.index(gear) + 1)"),
-    ("refusal 10 names gear i", "constant_windows", "Refused(10, gear)", "Refused(10, chosen[0])"),
-    ("refusal 10 names gear j", "constant_windows", "Refused(10, gear)", "Refused(10, chosen[-1])"),
+    ("refusals 10 and 15 name the chosen gear's place", "constant_windows", "gear), gear)", "gear), chosen.index(gear) + 1)"),
+    ("refusals 10 and 15 name gear i", "constant_windows", "gear), gear)", "gear), chosen[0])"),
+    ("refusals 10 and 15 name gear j", "constant_windows", "gear), gear)", "gear), chosen[-1])"),
     ("constant speed is asked of all remaining gears", "reckon", "constant_windows(runs, vehicle, chosen)",
      "constant_windows(runs, vehicle, remaining)"),
     ("constant speed is asked of all gears driven", "reckon", "constant_windows(runs, vehicle, chosen)",

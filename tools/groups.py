@@ -5,6 +5,7 @@ import gear_groups as of_gears
 import limit_groups as of_limits
 import sheet_groups as of_sheets
 import sheets
+import shortage_groups as of_shortages
 import window_groups as of_windows
 from make import (Gear, acceleration_runs, car_of, changed, constant_runs, gear_runs, interleaved, loud_copy, one_gear_sheet,
                   random_session, sheet_of)
@@ -113,5 +114,12 @@ GROUPS = (
     of_limits.phase_bytes, of_limits.class_bytes, of_limits.limit_and_other_causes, of_limits.limit_numbers,
     of_limits.limits_below_50, of_limits.written_with_a_look_up, of_limits.look_up_bits,
     of_limits.look_up_and_broken_records, of_limits.worked_sheet_by_phase, of_limits.rules_by_phase,
-    of_limits.sessions_by_class,
+    of_limits.sessions_by_class, of_shortages.too_wide, of_shortages.too_few, of_shortages.counts_without_a_window,
+    of_shortages.valid_among_others, of_shortages.spans_at_the_edge, of_shortages.parted_runs,
+    of_shortages.short_by_one_background, of_shortages.windows_at_part_edges, of_shortages.long_gears_mixed,
+    of_shortages.low_and_high_shortage, of_shortages.shortages_of_a_pair, of_shortages.few_beside_many,
+    of_shortages.each_gear_by_its_shortage, of_shortages.sixteen_without_two, of_shortages.shortage_above_S,
+    of_shortages.constant_speed_of_others, of_shortages.shortage_and_other_causes,
+    of_shortages.longest_without_a_window, of_shortages.sessions_with_shortages,
+    of_shortages.shortage_above_S_at_constant_speed, of_shortages.refused_before_a_shortage,
 )

@@ -58,13 +58,15 @@ def before(name, change):
 
 
 def for_kind(kind, changes):
-    """A reading of the runs of one kind only."""
-    def find_window(runs, vehicle, of, gear):
-        if of != kind:
-            return PAPER["find_window"](runs, vehicle, of, gear)
-        with reading({"find_window": PAPER["find_window"], **changes}):
-            return reckon.find_window(runs, vehicle, of, gear)
-    return {"find_window": find_window}
+    """A reading of the runs of one kind only: of their windows, and of the shortage of a gear without one."""
+    def changed(name):
+        def function(runs, vehicle, of, gear):
+            if of != kind:
+                return PAPER[name](runs, vehicle, of, gear)
+            with reading({name: PAPER[name], **changes}):
+                return vars(reckon)[name](runs, vehicle, of, gear)
+        return function
+    return {name: changed(name) for name in ("find_window", "shortage")}
 
 
 def one_sided(run, vehicle, side):

@@ -23,6 +23,7 @@ import gear_readings
 import limit_readings
 import reckon
 import sheet_readings
+import shortage_readings
 import window_readings
 from corpus import corpus
 from misread import ENOUGH, reading
@@ -31,7 +32,7 @@ LONG = 4000  # bytes
 SECONDS = 60  # for a reading that does not come to an end
 
 EDITS = {words for words, _ in edits.READINGS}
-SUBJECTS = (sheet_readings, background_readings, limit_readings, window_readings, gear_readings, edits)
+SUBJECTS = (sheet_readings, background_readings, limit_readings, window_readings, gear_readings, shortage_readings, edits)
 READINGS = [one for subject in SUBJECTS for one in subject.READINGS]
 REASONS = {words: reason for subject in SUBJECTS for reason, names in subject.EQUIVALENT.items() for words in names}
 TRIED = window_readings.TRIED + gear_readings.TRIED  # what some of the reasons rest on

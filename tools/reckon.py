@@ -40,6 +40,9 @@ LIMITS_UP_TO = ((1200, (72, 70, 68)), (1600, (73, 71, 69)))
 LIMITS_ABOVE = (75, 73, 71)
 LOW_CARS_ABOVE, LOW_CAR_LIMITS = 2000, (75, 74, 72)
 
+# The refusals of a gear without a window, by run kind: with fewer than four valid runs, and with four or more (document 02, wish 5).
+NO_WINDOW = {ACCELERATION_RUN: (7, 14), CONSTANT_RUN: (10, 15)}
+
 
 class Refused(Exception):
     """A refusal: its number and its place."""
@@ -291,12 +294,23 @@ def is_window(four):
     return span([run.left for run in four]) <= WIDEST_SPAN and span([run.right for run in four]) <= WIDEST_SPAN
 
 
+def valid_runs(runs, vehicle, kind, gear):
+    """Step 4: the valid runs of a gear and run kind, in the sheet's order."""
+    chosen = [valid_run(run, vehicle) for run in runs if run.kind == kind and run.gear == gear]
+    return [run for run in chosen if run is not None]
+
+
 def find_window(runs, vehicle, kind, gear):
     """Step 4: the first window of a gear and run kind, or None."""
-    chosen = [valid_run(run, vehicle) for run in runs if run.kind == kind and run.gear == gear]
-    rest = [run for run in chosen if run is not None]
+    rest = valid_runs(runs, vehicle, kind, gear)
     fours = (tuple(rest[at:at + 4]) for at in range(len(rest) - 3))
     return next((four for four in fours if is_window(four)), None)
+
+
+def shortage(runs, vehicle, kind, gear):
+    """The refusal of a gear without a window of a run kind, by how many valid runs it has (document 02, wish 5)."""
+    too_few, too_wide = NO_WINDOW[kind]
+    return too_few if len(valid_runs(runs, vehicle, kind, gear)) < 4 else too_wide
 
 
 def mean_level(window):
@@ -452,23 +466,23 @@ def is_pass(L_urban, limit):
 # The evaluation.
 
 def acceleration_windows(runs, vehicle):
-    """Refusal 7, or the acceleration window of each gear that has an acceleration run."""
+    """Refusals 7 and 14, or the acceleration window of each gear that has an acceleration run."""
     gears = sorted({run.gear for run in runs if run.kind == ACCELERATION_RUN})
     if not gears:
         raise Refused(7, 0)
     windows = {gear: find_window(runs, vehicle, ACCELERATION_RUN, gear) for gear in gears}
     for gear in gears:
         if windows[gear] is None:
-            raise Refused(7, gear)
+            raise Refused(shortage(runs, vehicle, ACCELERATION_RUN, gear), gear)
     return windows
 
 
 def constant_windows(runs, vehicle, chosen):
-    """Refusal 10, or the constant-speed windows of the chosen gears."""
+    """Refusals 10 and 15, or the constant-speed windows of the chosen gears."""
     windows = {gear: find_window(runs, vehicle, CONSTANT_RUN, gear) for gear in chosen}
     for gear in sorted(chosen):
         if windows[gear] is None:
-            raise Refused(10, gear)
+            raise Refused(shortage(runs, vehicle, CONSTANT_RUN, gear), gear)
     return windows
 
 

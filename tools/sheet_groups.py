@@ -202,7 +202,7 @@ CARS_WITH = {6: (dict(power=10, mass=5000), dict(power=20000, mass=300)),
 
 
 def session_with(random, causes):
-    """A sheet to which these causes apply, each in the way 0 or 1; PMR is 66.7 and R 1.49 but for cause 6."""
+    """A sheet to which these causes apply, each in the way 0 or 1, 7 and 10 also in the way 2; PMR is 66.7 and R 1.49 but for cause 6."""
     car = {}
     for cause in sorted(CARS_WITH.keys() & causes.keys()):
         car.update(CARS_WITH[cause][causes[cause]])
@@ -220,7 +220,7 @@ def session_with(random, causes):
 
 
 def runs_with(random, causes):
-    """Runs to which causes 7 to 10 apply: gears 2 and 4, and for the second way of cause 7 three runs of gear 6."""
+    """Runs to which causes 7 to 10 apply: gears 2 and 4, and for cause 7 none in acceleration, or three of gear 6, or four too wide."""
     below = causes.get(9) == 1
     first, second = (20, 10) if below else (200, 100)
     if 8 in causes:
@@ -230,9 +230,11 @@ def runs_with(random, causes):
     runs = gear_runs(random, {}, gears, plain=True)
     if 10 in causes:
         constant = [one for one in runs if one[0] == CONSTANT_RUN]
-        runs = [one for one in runs if one[0] == ACCELERATION_RUN] + (constant[:3] + constant[5:]) * causes[10]
+        lacking = ([], constant[:3] + constant[5:], too_wide(constant))[causes[10]]
+        runs = [one for one in runs if one[0] == ACCELERATION_RUN] + lacking
     if 7 in causes:
-        runs = (without_acceleration(runs), runs + runs_of_gear_6(random))[causes[7]]
+        four = gear_runs(random, {}, [Gear(6, 60, 690)], plain=True)
+        runs = (without_acceleration(runs), runs + four[:3], runs + too_wide(four))[causes[7]]
     return runs
 
 
@@ -241,8 +243,9 @@ def without_acceleration(runs):
     return [one for one in runs if one[0] == CONSTANT_RUN] or short_runs()[1:]
 
 
-def runs_of_gear_6(random):
-    return gear_runs(random, {}, [Gear(6, 60, 690)], plain=True)[:3]
+def too_wide(runs):
+    """Copies of runs, 2.1 dB apart in turn."""
+    return [loud_copy(one, 690 + 21 * (at % 2)) for at, one in enumerate(runs)]
 
 
 ZERO = bytes(4)

@@ -1,4 +1,4 @@
-"""Other readings of "The sheet" and of the table of refusals, with document 02's refusals 11 and 12 in it."""
+"""Other readings of "The sheet" and of the table of refusals, with document 02's refusals 11, 12, 14 and 15 in it."""
 
 from itertools import combinations
 
@@ -168,10 +168,18 @@ OTHERS = simple(
 )
 
 
-# The order of the table. A sheet is mended of one cause after the other, to see which comes next.
+# The order of the table, by rows. A sheet is mended of one cause after the other, to see which comes next.
 
-ORDER = (2, 3, 4, 5, 11, 12, 6, 7, 8, 9, 10)
-MENDED = ORDER[:ORDER.index(9)]  # what comes after these causes can be told
+ORDER = ((2,), (3,), (4,), (5,), (11,), (12,), (6,), (7, 14), (8,), (9,), (10, 15))
+MENDED = ORDER[:ORDER.index((9,))]  # what comes after these rows can be told
+
+
+def numbers_of(rows):
+    return [number_ for row in rows for number_ in row]
+
+
+def words_of(row):
+    return " and ".join(str(number_) for number_ in row)
 
 
 def joined(first, runs, last):
@@ -197,7 +205,7 @@ def mended(sheet, number_, place):
     if number_ == 6:
         low = 1000 * number(records[0], 4) < 50 * number(records[0], 6)
         return with_part(sheet, 4, (50 if low else 6000).to_bytes(2, "little") + (1000).to_bytes(2, "little"))
-    if number_ == 7 and place:
+    if number_ in (7, 14) and place:
         return joined(records[0], [record for record in records[1:-1] if record[:2] != bytes((2, place))], records[-1])
     return None
 
@@ -227,26 +235,27 @@ def passing_over(causes, wanted):
     return {"evaluate": evaluate}
 
 
-def moved_up(cause, above):
-    """A cause checked before another one that stands above it."""
-    return passing_over(ORDER[ORDER.index(above):ORDER.index(cause)], lambda word, number_: (word, number_) == ("REFUSED", cause))
+def moved_up(row, above):
+    """A row checked before another one that stands above it."""
+    return passing_over(numbers_of(ORDER[ORDER.index(above):ORDER.index(row)]), lambda word, number_: word == "REFUSED" and number_ in row)
 
 
-def moved_down(cause, below):
-    """A cause checked after another one that stands below it."""
-    wanted = ORDER[:ORDER.index(below) + 1]
-    return passing_over((cause,), lambda word, number_: word == "REFUSED" and number_ in wanted)
+def moved_down(row, below):
+    """A row checked after another one that stands below it."""
+    wanted = numbers_of(ORDER[:ORDER.index(below) + 1])
+    return passing_over(row, lambda word, number_: word == "REFUSED" and number_ in wanted)
 
 
-def left_out(cause):
-    return passing_over((cause,), lambda word, number_: True)
+def left_out(row):
+    return passing_over(row, lambda word, number_: True)
 
 
 ORDERS = [
-    *((f"refusal {second} before {first}", moved_up(second, first)) for first, second in combinations(ORDER, 2) if first in MENDED),
-    *((f"refusal {first} after {second}", moved_down(first, second)) for first, second in combinations(ORDER, 2)
+    *((f"refusal {words_of(second)} before {words_of(first)}", moved_up(second, first))
+      for first, second in combinations(ORDER, 2) if first in MENDED),
+    *((f"refusal {words_of(first)} after {words_of(second)}", moved_down(first, second)) for first, second in combinations(ORDER, 2)
       if first in MENDED[:-1] and second != ORDER[ORDER.index(first) + 1]),
-    *((f"no refusal {cause}", left_out(cause)) for cause in MENDED),
+    *((f"no refusal {words_of(row)}", left_out(row)) for row in MENDED),
 ]
 
 
@@ -256,9 +265,10 @@ def placed(cause, change):
     return answers(lambda word, *rest: (word, cause, change(rest[1])) if (word, rest[0]) == ("REFUSED", cause) else (word, *rest))
 
 
-CHANGES = (("one more", ORDER, lambda place: place + 1), ("one less", (4, 5, 7, 8, 10), lambda place: max(place - 1, 0)),
-           ("0", (4, 5, 7, 8, 10), lambda place: 0), ("1 at the least", (4, 5, 7), lambda place: max(place, 1)),
-           ("by 8 bits", (4, 5), lambda place: place % 256), ("by 4 bits", (7, 10), lambda place: place % 16))
+OF_GEARS = (7, 8, 10, 14, 15)  # the refusals that name a gear
+CHANGES = (("one more", numbers_of(ORDER), lambda place: place + 1), ("one less", (4, 5, *OF_GEARS), lambda place: max(place - 1, 0)),
+           ("0", (4, 5, *OF_GEARS), lambda place: 0), ("1 at the least", (4, 5, 7), lambda place: max(place, 1)),
+           ("by 8 bits", (4, 5), lambda place: place % 256), ("by 4 bits", (7, 10, 14, 15), lambda place: place % 16))
 PLACES = [(f"place of refusal {cause}: {words}", placed(cause, change)) for words, causes, change in CHANGES for cause in causes]
 
 READINGS = FIELDS + UNNAMED + LAYOUTS + RECORDS + OTHERS + ORDERS + PLACES

@@ -39,6 +39,7 @@ SECTIONS = {
     "8": ("Whole sheet and the program", 9), "9": ("Where the spreadsheet tempts", 4),
     "10": ("The shape of each place", 14), "11": ("Note from the buyer", 7),
     "W1": ("Limits by class", 7), "W2": ("Differences at the nearest whole decibel", 5), "W3": ("The four-run span in one walk", 3),
+    "W5": ("Which kind of shortage", 5),
     "W8": ("A background for each microphone", 6), "W11": ("Production checks", 7), "W13": ("Test mass of lorries", 9),
     "W14": ("Motorcycles", 8),
 }

@@ -1,4 +1,4 @@
-"""Groups of the corpus about levels, windows and accelerations: refusal 7."""
+"""Groups of the corpus about levels, windows and accelerations: refusals 7 and 14."""
 
 from itertools import islice, product
 
@@ -9,7 +9,7 @@ from reckon import ABSENT, ACCELERATION_RUN, CONSTANT_RUN, LEVEL, OVERLOAD, reco
 from sheets import put, run, sheet, tenths, vehicle
 
 
-# Refusal 7.
+# Refusals 7 and 14.
 
 def no_acceleration(random):
     yield vehicle() + sheets.closing(0)

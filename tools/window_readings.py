@@ -6,7 +6,7 @@ from fractions import Fraction
 import reckon
 from misread import (PAPER, Single, before, by_a_tenth_first, by_edit, by_floats, for_kind, for_side, half_down, half_from_zero,
                      half_to_even, not_at_all, rounding_in, simple)
-from reckon import ABSENT, ACCELERATION_RUN, CONSTANT_RUN, LEVEL, OVERLOAD, rounded, span
+from reckon import ABSENT, ACCELERATION_RUN, CONSTANT_RUN, LEVEL, OVERLOAD, rounded, span, valid_runs
 
 # Roundings, here and in the gear rules and L_urban.
 
@@ -170,11 +170,6 @@ SIDES = [(f"{words}, {side} only", for_side(side, changes)) for words, changes i
 
 # Step 4: windows.
 
-def rest_of(runs, vehicle, kind, gear):
-    same = [reckon.valid_run(run, vehicle) for run in runs if (run.kind, run.gear) == (kind, gear)]
-    return [run for run in same if run is not None]
-
-
 def fours_of(rest):
     return [tuple(rest[at:at + 4]) for at in range(len(rest) - 3)]
 
@@ -185,7 +180,7 @@ def windows_of(rest):
 
 def search(words, pick):
     """A search that picks a window, or None, from the valid runs of a gear and kind."""
-    return words, {"find_window": lambda *condition: pick(rest_of(*condition))}
+    return words, {"find_window": lambda *condition: pick(valid_runs(*condition))}
 
 
 def first_of(windows):
@@ -406,13 +401,13 @@ def from_mean_speeds(runs, vehicle, kind, gear):
 def from_all_valid_runs(runs, vehicle, kind, gear):
     """Each run of the window has the mean acceleration of all valid runs."""
     window = PAPER["find_window"](runs, vehicle, kind, gear)
-    rest = rest_of(runs, vehicle, kind, gear)
+    rest = valid_runs(runs, vehicle, kind, gear)
     return window and tuple(run._replace(acceleration=Fraction(sum(one.acceleration for one in rest), len(rest))) for run in window)
 
 
 def levels_of_all_valid_runs(runs, vehicle, kind, gear):
     window = PAPER["find_window"](runs, vehicle, kind, gear)
-    rest = rest_of(runs, vehicle, kind, gear)
+    rest = valid_runs(runs, vehicle, kind, gear)
     return window and tuple(run._replace(left=Fraction(sum(one.left for one in rest), len(rest)),
                                          right=Fraction(sum(one.right for one in rest), len(rest))) for run in window)
 

@@ -51,25 +51,27 @@ static const struct {
     size_t place, at;
     unsigned number;
 } changes[] = {
-    {RUTHIMPO_ACCEPTED, 0, 14, 72},                       /* the limit that it has */
-    {RUTHIMPO_NO_VEHICLE, 0, 0, 0x0109},                  /* the first record closes */
-    {RUTHIMPO_NO_CLOSING, 21, 32 * 21 + 2, 19},           /* 19 runs for 20 */
-    {RUTHIMPO_BROKEN_RECORD, 7, 32 * 7, 0x1102},          /* gear 17 */
-    {RUTHIMPO_PMR_OUT_OF_RANGE, 0, 4, 10},                /* 1.0 kW */
-    {RUTHIMPO_NO_WINDOW, 2, 32 * 1 + 2, 0x0101},          /* an acceleration run of gear 2 is struck */
-    {RUTHIMPO_NOT_FALLING, 3, 32 * 9 + 18, 1500},         /* gear 4 reaches 150.0 km/h */
-    {RUTHIMPO_NO_RULE, 0, 10, 3999},                      /* every gear turns above S */
-    {RUTHIMPO_NO_CONSTANT_SPEED, 3, 32 * 13 + 2, 0x0101}, /* a constant-speed run of gear 3 is struck */
+    {RUTHIMPO_ACCEPTED, 0, 14, 72},                              /* the limit that it has */
+    {RUTHIMPO_NO_VEHICLE, 0, 0, 0x0109},                         /* the first record closes */
+    {RUTHIMPO_NO_CLOSING, 21, 32 * 21 + 2, 19},                  /* 19 runs for 20 */
+    {RUTHIMPO_BROKEN_RECORD, 7, 32 * 7, 0x1102},                 /* gear 17 */
+    {RUTHIMPO_PMR_OUT_OF_RANGE, 0, 4, 10},                       /* 1.0 kW */
+    {RUTHIMPO_TOO_FEW, 2, 32 * 1 + 2, 0x0101},                   /* an acceleration run of gear 2 is struck */
+    {RUTHIMPO_TOO_WIDE, 2, 32 * 1 + 10, 0x4299},                 /* one has 76.5 on the left for 74.0 */
+    {RUTHIMPO_NOT_FALLING, 3, 32 * 9 + 18, 1500},                /* gear 4 reaches 150.0 km/h */
+    {RUTHIMPO_NO_RULE, 0, 10, 3999},                             /* every gear turns above S */
+    {RUTHIMPO_CONSTANT_SPEED_TOO_FEW, 3, 32 * 13 + 2, 0x0101},   /* a constant-speed run of gear 3 is struck */
+    {RUTHIMPO_CONSTANT_SPEED_TOO_WIDE, 3, 32 * 13 + 10, 0x4289}, /* one has 68.5 on the left for 66.0 */
     /* the right background, before and after: above its range, at the end of it, where no run is valid, and beside 55.2 and 55.5,
      * over which the right levels at constant speed, 65.2 in gear 4 and 65.5 in gear 3, are 10.0 */
     {RUTHIMPO_BROKEN_RECORD, 0, 18, 1001},
     {RUTHIMPO_BROKEN_RECORD, 21, 32 * 21 + 6, 1001},
-    {RUTHIMPO_NO_WINDOW, 2, 18, 1000},
-    {RUTHIMPO_NO_WINDOW, 2, 32 * 21 + 6, 1000},
+    {RUTHIMPO_TOO_FEW, 2, 18, 1000},
+    {RUTHIMPO_TOO_FEW, 2, 32 * 21 + 6, 1000},
     {RUTHIMPO_ACCEPTED, 0, 18, 552},
-    {RUTHIMPO_NO_CONSTANT_SPEED, 4, 18, 553},
-    {RUTHIMPO_NO_CONSTANT_SPEED, 4, 32 * 21 + 6, 555},
-    {RUTHIMPO_NO_CONSTANT_SPEED, 3, 32 * 21 + 6, 556},
+    {RUTHIMPO_CONSTANT_SPEED_TOO_FEW, 4, 18, 553},
+    {RUTHIMPO_CONSTANT_SPEED_TOO_FEW, 4, 32 * 21 + 6, 555},
+    {RUTHIMPO_CONSTANT_SPEED_TOO_FEW, 3, 32 * 21 + 6, 556},
     /* the bytes after it have no name */
     {RUTHIMPO_BROKEN_RECORD, 0, 20, 0x0001},
     {RUTHIMPO_BROKEN_RECORD, 21, 32 * 21 + 8, 0x0001},
@@ -96,6 +98,152 @@ static void check_refusals(void) {
         uint32_t refusal = ruthimpo_evaluate(sheet, worked_bytes, result, sizeof result, &place);
         check(refusal == changes[n].refusal && place == changes[n].place, "refusal and place of change", n);
         check(is_kept(result, refusal == RUTHIMPO_ACCEPTED ? RUTHIMPO_RESULT_BYTES : 0), "result after change", n);
+    }
+}
+
+/* Runs of a kind and gear: so many that are valid, of which some are so many dB louder on one side, then so many struck ones. */
+struct group {
+    unsigned kind, gear, valid, struck;
+    float louder;
+};
+
+enum { ACCELERATION = 2, CONSTANT = 3, MOST_GROUPS = 5, MOST_RECORDS = 1024 };
+
+#define WITHIN 2.0f
+#define WIDE 2.1f
+
+/* A gear whose rule chooses it alone, and a pair. */
+#define ONE {ACCELERATION, 3, 4, 0, 0}
+#define PAIR {ACCELERATION, 3, 4, 0, 0}, {ACCELERATION, 4, 4, 0, 0}
+
+/* Sheets of such groups, each with its refusal. Gear 5 has the runs of gear 4. */
+static const struct {
+    enum ruthimpo_refusal refusal;
+    size_t place;
+    struct group groups[MOST_GROUPS];
+} shortages[] = {
+    /* no acceleration run, whatever there is at constant speed */
+    {RUTHIMPO_TOO_FEW, 0, {{0}}},
+    {RUTHIMPO_TOO_FEW, 0, {{CONSTANT, 3, 4, 0, 0}, {CONSTANT, 4, 4, 0, 0}}},
+    {RUTHIMPO_TOO_FEW, 0, {{CONSTANT, 3, 20, 0, WIDE}, {CONSTANT, 4, 3, 0, 0}}},
+    /* fewer than four acceleration runs that are close together, or a struck one as the fourth */
+    {RUTHIMPO_TOO_FEW, 3, {{ACCELERATION, 3, 1, 0, 0}}},
+    {RUTHIMPO_TOO_FEW, 3, {{ACCELERATION, 3, 3, 0, 0}}},
+    {RUTHIMPO_TOO_FEW, 3, {{ACCELERATION, 3, 3, 1, 0}}},
+    {RUTHIMPO_TOO_FEW, 3, {{ACCELERATION, 3, 3, 1, WIDE}}},
+    {RUTHIMPO_TOO_WIDE, 3, {{ACCELERATION, 3, 4, 1, WIDE}}},
+    /* many struck ones */
+    {RUTHIMPO_TOO_FEW, 3, {{ACCELERATION, 3, 0, 1022, 0}}},
+    {RUTHIMPO_TOO_FEW, 3, {{ACCELERATION, 3, 0, 20, 0}, {ACCELERATION, 3, 3, 20, WIDE}}},
+    {RUTHIMPO_TOO_WIDE, 3, {{ACCELERATION, 3, 0, 20, 0}, {ACCELERATION, 3, 4, 20, WIDE}}},
+    {RUTHIMPO_TOO_FEW, 5, {PAIR, {ACCELERATION, 5, 0, 6, 0}, {CONSTANT, 3, 4, 0, 0}, {CONSTANT, 4, 4, 0, 0}}},
+    /* the lowest gear without a window decides, wherever its runs stand */
+    {RUTHIMPO_TOO_WIDE, 2, {{ACCELERATION, 2, 4, 0, WIDE}, {ACCELERATION, 3, 3, 0, 0}}},
+    {RUTHIMPO_TOO_WIDE, 2, {{ACCELERATION, 3, 3, 0, 0}, {ACCELERATION, 2, 20, 0, WIDE}}},
+    {RUTHIMPO_TOO_WIDE, 2, {{ACCELERATION, 2, 17, 0, WIDE}, {ACCELERATION, 3, 4, 0, WIDE}}},
+    {RUTHIMPO_TOO_FEW, 2, {{ACCELERATION, 2, 3, 0, 0}, {ACCELERATION, 3, 4, 0, WIDE}}},
+    {RUTHIMPO_TOO_FEW, 2, {{ACCELERATION, 3, 20, 0, WIDE}, {ACCELERATION, 2, 3, 0, 0}}},
+    {RUTHIMPO_TOO_FEW, 2, {{ACCELERATION, 2, 0, 4, 0}, {ACCELERATION, 3, 17, 0, WIDE}}},
+    {RUTHIMPO_TOO_WIDE, 4, {ONE, {ACCELERATION, 4, 4, 0, WIDE}, {ACCELERATION, 5, 3, 0, 0}}},
+    {RUTHIMPO_TOO_FEW, 4, {ONE, {ACCELERATION, 4, 3, 0, 0}, {ACCELERATION, 5, 4, 0, WIDE}}},
+    /* the same at constant speed, for one gear */
+    {RUTHIMPO_CONSTANT_SPEED_TOO_FEW, 3, {ONE}},
+    {RUTHIMPO_CONSTANT_SPEED_TOO_FEW, 3, {ONE, {CONSTANT, 3, 3, 0, 0}}},
+    {RUTHIMPO_CONSTANT_SPEED_TOO_FEW, 3, {ONE, {CONSTANT, 3, 3, 1, WIDE}}},
+    {RUTHIMPO_CONSTANT_SPEED_TOO_WIDE, 3, {ONE, {CONSTANT, 3, 4, 1, WIDE}}},
+    {RUTHIMPO_CONSTANT_SPEED_TOO_FEW, 3, {ONE, {CONSTANT, 3, 0, 1018, 0}}},
+    {RUTHIMPO_CONSTANT_SPEED_TOO_FEW, 3, {ONE, {CONSTANT, 3, 0, 20, 0}, {CONSTANT, 3, 3, 20, WIDE}}},
+    {RUTHIMPO_CONSTANT_SPEED_TOO_WIDE, 3, {ONE, {CONSTANT, 3, 0, 20, 0}, {CONSTANT, 3, 4, 20, WIDE}}},
+    /* for a pair, of which the lower decides, and the higher if the lower has a window */
+    {RUTHIMPO_CONSTANT_SPEED_TOO_WIDE, 3, {PAIR, {CONSTANT, 3, 4, 0, WIDE}, {CONSTANT, 4, 3, 0, 0}}},
+    {RUTHIMPO_CONSTANT_SPEED_TOO_WIDE, 3, {PAIR, {CONSTANT, 4, 4, 0, WIDE}, {CONSTANT, 3, 20, 0, WIDE}}},
+    {RUTHIMPO_CONSTANT_SPEED_TOO_FEW, 3, {PAIR, {CONSTANT, 3, 3, 0, 0}, {CONSTANT, 4, 4, 0, WIDE}}},
+    {RUTHIMPO_CONSTANT_SPEED_TOO_WIDE, 4, {PAIR, {CONSTANT, 3, 4, 0, 0}, {CONSTANT, 4, 17, 0, WIDE}}},
+    {RUTHIMPO_CONSTANT_SPEED_TOO_FEW, 4, {PAIR, {CONSTANT, 3, 4, 0, 0}, {CONSTANT, 4, 3, 0, 0}}},
+    /* 7 and 14 before 8, 10 and 15, and 8 before 10 and 15 */
+    {RUTHIMPO_TOO_WIDE, 3, {{ACCELERATION, 3, 4, 0, WIDE}, {ACCELERATION, 4, 4, 0, 0}, {ACCELERATION, 5, 4, 0, 0}}},
+    {RUTHIMPO_TOO_FEW, 3, {{ACCELERATION, 3, 3, 0, 0}, {ACCELERATION, 4, 4, 0, 0}, {ACCELERATION, 5, 4, 0, 0}}},
+    {RUTHIMPO_TOO_WIDE, 5, {PAIR, {ACCELERATION, 5, 4, 0, WIDE}, {CONSTANT, 3, 3, 0, 0}}},
+    {RUTHIMPO_TOO_FEW, 5, {PAIR, {ACCELERATION, 5, 3, 0, 0}, {CONSTANT, 3, 4, 0, WIDE}}},
+    {RUTHIMPO_NOT_FALLING, 4, {{ACCELERATION, 4, 4, 0, 0}, {ACCELERATION, 5, 4, 0, 0}, {CONSTANT, 4, 4, 0, WIDE}}},
+    /* 2.0 dB are within a window, a window may come last, and a gear that is not chosen needs none at constant speed */
+    {RUTHIMPO_ACCEPTED, 0, {{ACCELERATION, 3, 4, 0, WITHIN}, {CONSTANT, 3, 4, 0, WITHIN}}},
+    {RUTHIMPO_ACCEPTED, 0, {{ACCELERATION, 3, 20, 0, WIDE}, ONE, {CONSTANT, 3, 300, 0, WIDE}, {CONSTANT, 3, 4, 0, 0}}},
+    {RUTHIMPO_ACCEPTED, 0, {ONE, {CONSTANT, 3, 4, 0, 0}, {CONSTANT, 4, 4, 0, WIDE}, {CONSTANT, 5, 3, 0, 0}}},
+};
+
+/* The first run of the worked sheet that has this kind and gear, for a gear above 4 that of gear 4. */
+static const uint8_t *worked_run(unsigned kind, unsigned gear) {
+    unsigned known = gear < 4 ? gear : 4;
+    return worked + 32 * (kind == ACCELERATION ? 4 * known - 7 : 4 * known + 1);
+}
+
+/* Puts a group behind so many records; answers how many there are then. Of its runs, one in so many as `step` is louder. */
+static size_t put_group(uint8_t *sheet, size_t records, const struct group *group, size_t side, unsigned step) {
+    for (unsigned n = 0; n < group->valid + group->struck; n++) {
+        uint8_t *run = sheet + 32 * records++;
+        float level;
+        memcpy(run, worked_run(group->kind, group->gear), 32);
+        run[1] = group->gear;
+        run[2] = n >= group->valid;
+        memcpy(&level, run + side, sizeof level);
+        level += n % step == 0 ? group->louder : 0;
+        memcpy(run + side, &level, sizeof level);
+    }
+    return records;
+}
+
+/* Puts a sheet of groups; answers its bytes. */
+static size_t put_groups(uint8_t *sheet, const struct group groups[MOST_GROUPS], size_t side, unsigned step) {
+    size_t records = 1;
+    memcpy(sheet, worked, 32);
+    for (size_t n = 0; n < MOST_GROUPS; n++) {
+        records = put_group(sheet, records, &groups[n], side, step);
+    }
+    memcpy(sheet + 32 * records, worked + 32 * 21, 32);
+    put(sheet, 32 * records + 2, records - 1);
+    return 32 * (records + 1);
+}
+
+/* A sheet of groups, with the loud side at 8 or 12. */
+static void check_groups(enum ruthimpo_refusal expected, size_t expected_place, const struct group groups[MOST_GROUPS],
+                         size_t side, unsigned step, size_t at) {
+    static uint8_t sheet[32 * MOST_RECORDS];
+    uint8_t result[ROOM], out[ROOM];
+    char refused[ROOM];
+    size_t place = POISON, bytes = put_groups(sheet, groups, side, step);
+    memset(result, POISON, sizeof result);
+    memset(out, POISON, sizeof out);
+    uint32_t refusal = ruthimpo_evaluate(sheet, bytes, result, sizeof result, &place);
+    check(refusal == expected && place == expected_place, "refusal and place of groups", at);
+    check(is_kept(result, refusal == RUTHIMPO_ACCEPTED ? RUTHIMPO_RESULT_BYTES : 0), "result of groups", at);
+    size_t length = ruthimpo_line(sheet, bytes, out, sizeof out);
+    check(is_kept(out, length), "bytes after the line of groups", at);
+    if (expected != RUTHIMPO_ACCEPTED) {
+        size_t said = sprintf(refused, "REFUSED %u %zu\n", expected, expected_place);
+        check(length == said && memcmp(out, refused, said) == 0, "line of groups", at);
+    }
+}
+
+/* Wide runs of one gear, from one to as many as a sheet has room for beside four others. */
+static void check_counts(size_t side, unsigned step) {
+    for (unsigned valid = 1; valid <= MOST_RECORDS - 6; valid++) {
+        const struct group alone[MOST_GROUPS] = {{ACCELERATION, 3, valid, 0, WIDE}};
+        const struct group after[MOST_GROUPS] = {ONE, {CONSTANT, 3, valid, 0, WIDE}};
+        check_groups(valid < 4 ? RUTHIMPO_TOO_FEW : RUTHIMPO_TOO_WIDE, 3, alone, side, step, valid);
+        check_groups(valid < 4 ? RUTHIMPO_CONSTANT_SPEED_TOO_FEW : RUTHIMPO_CONSTANT_SPEED_TOO_WIDE, 3, after, side, step, valid);
+    }
+}
+
+/* If each second, third or fourth run of a wide group is louder, any four neighbours have a louder one and another. */
+static void check_shortages(void) {
+    for (unsigned step = 2; step <= 4; step++) {
+        for (size_t side = 8; side <= 12; side += 4) {
+            for (size_t n = 0; n < sizeof shortages / sizeof *shortages; n++) {
+                check_groups(shortages[n].refusal, shortages[n].place, shortages[n].groups, side, step, n);
+            }
+            check_counts(side, step);
+        }
     }
 }
 
@@ -755,6 +903,7 @@ int main(int count, char **names) {
     line_bytes = read_file(names[2], line, sizeof line);
     check(worked_bytes == 32 * 22, "bytes of the worked sheet", worked_bytes);
     check_refusals();
+    check_shortages();
     check_backgrounds();
     check_without_limit();
     check_worked_by_class();

@@ -33,30 +33,37 @@ extern "C" {
 #define RUTHIMPO_RESULT_BYTES 32
 #define RUTHIMPO_LINE_BYTES 276
 
-/* Acceptance, or the number of a refusal. ruthimpo_evaluate answers 0 to 12 (document 01, "Refusals and what remains"; document
- * 02, wish 1), ruthimpo_motorcycle 0, 22 or 23 (document 02, wish 14), ruthimpo_production_offer 0, 20 (document 02, wish 11)
- * or 255, ruthimpo_production_status 0 or 255, ruthimpo_lorry_two_axles and ruthimpo_lorry_more_axles 0 or 21 (document 02,
- * wish 13); 255 is no number of the documents. */
+/* Acceptance, or the number of a refusal. ruthimpo_evaluate answers 0 to 12, 14 or 15 (document 01, "Refusals and what remains";
+ * document 02, wishes 1 and 5), ruthimpo_motorcycle 0, 22 or 23 (document 02, wish 14), ruthimpo_production_offer 0, 20 (document
+ * 02, wish 11) or 255, ruthimpo_production_status 0 or 255, ruthimpo_lorry_two_axles and ruthimpo_lorry_more_axles 0 or 21
+ * (document 02, wish 13); 255 is no number of the documents. A run is valid by document 01, "From levels to windows", step 3. */
 enum ruthimpo_refusal {
     RUTHIMPO_ACCEPTED = 0,
-    RUTHIMPO_SHORT_BUFFER = 1,        /* the result buffer has under 32 bytes */
-    RUTHIMPO_WRONG_SIZE = 2,          /* the sheet has no byte, more than 32,768, or a record cut short */
-    RUTHIMPO_NO_VEHICLE = 3,          /* the first record is no vehicle record */
-    RUTHIMPO_NO_CLOSING = 4,          /* the last record, its place, does not close the sheet or counts another number of runs */
-    RUTHIMPO_BROKEN_RECORD = 5,       /* the place is the lowest record that breaks the layout */
-    RUTHIMPO_PMR_OUT_OF_RANGE = 6,    /* PMR is under 5.0 or over 600.0 */
-    RUTHIMPO_NO_WINDOW = 7,           /* the place is the lowest gear with an acceleration run and no window;
-                                         0 if there is no acceleration run */
-    RUTHIMPO_NOT_FALLING = 8,         /* the place is the lower gear of the first neighbours whose accelerations do not fall */
-    RUTHIMPO_NO_RULE = 9,             /* every gear is dropped, or none of the rules chooses one */
-    RUTHIMPO_NO_CONSTANT_SPEED = 10,  /* the place is the lowest chosen gear without a constant-speed window */
-    RUTHIMPO_NO_LIMIT_FOR_N1 = 11,    /* the limit is 0, to be looked up, and the category is N1 */
-    RUTHIMPO_NO_LIMIT_ENTRY = 12,     /* the limit is 0, and the phase is not from 1 to 3 or the byte of low cars is above 1 */
-    RUTHIMPO_CAR_AFTER_VERDICT = 20,  /* the place is the number of cars counted */
-    RUTHIMPO_REAR_OVERLOADED = 21,    /* the unladen load of the rear axle is over 75% of that axle's maximum */
-    RUTHIMPO_LEVEL_OUT_OF_RANGE = 22, /* the place is the number of the first level that is not finite or not from 20.0 to 140.0 */
-    RUTHIMPO_SIDE_FAR_APART = 23,     /* the place is the first side whose two levels, in whole dB, differ by more than 2 */
-    RUTHIMPO_NO_SUCH_STAGE = 255      /* the stage of a production check is above 6 */
+    RUTHIMPO_SHORT_BUFFER = 1,             /* the result buffer has under 32 bytes */
+    RUTHIMPO_WRONG_SIZE = 2,               /* the sheet has no byte, more than 32,768, or a record cut short */
+    RUTHIMPO_NO_VEHICLE = 3,               /* the first record is no vehicle record */
+    RUTHIMPO_NO_CLOSING = 4,               /* the last record, its place, does not close the sheet or counts another number of
+                                              runs */
+    RUTHIMPO_BROKEN_RECORD = 5,            /* the place is the lowest record that breaks the layout */
+    RUTHIMPO_PMR_OUT_OF_RANGE = 6,         /* PMR is under 5.0 or over 600.0 */
+    RUTHIMPO_TOO_FEW = 7,                  /* the place is the lowest gear with an acceleration run and no window, which has fewer
+                                              than four valid acceleration runs; 0 if there is no acceleration run */
+    RUTHIMPO_NOT_FALLING = 8,              /* the place is the lower gear of the first neighbours whose accelerations do not fall */
+    RUTHIMPO_NO_RULE = 9,                  /* every gear is dropped, or none of the rules chooses one */
+    RUTHIMPO_CONSTANT_SPEED_TOO_FEW = 10,  /* the place is the lowest chosen gear without a constant-speed window, which has fewer
+                                              than four valid constant-speed runs */
+    RUTHIMPO_NO_LIMIT_FOR_N1 = 11,         /* the limit is 0, to be looked up, and the category is N1 */
+    RUTHIMPO_NO_LIMIT_ENTRY = 12,          /* the limit is 0, and the phase is not from 1 to 3 or the byte of low cars is above 1 */
+    RUTHIMPO_TOO_WIDE = 14,                /* as 7, but this gear has four or more valid acceleration runs, of which no four
+                                              neighbours are within 2.0 dB on both sides */
+    RUTHIMPO_CONSTANT_SPEED_TOO_WIDE = 15, /* as 10, but this gear has four or more valid constant-speed runs, of which no four
+                                              neighbours are within 2.0 dB on both sides */
+    RUTHIMPO_CAR_AFTER_VERDICT = 20,       /* the place is the number of cars counted */
+    RUTHIMPO_REAR_OVERLOADED = 21,         /* the unladen load of the rear axle is over 75% of that axle's maximum */
+    RUTHIMPO_LEVEL_OUT_OF_RANGE = 22,      /* the place is the number of the first level that is not finite or not from 20.0 to
+                                              140.0 */
+    RUTHIMPO_SIDE_FAR_APART = 23,          /* the place is the first side whose two levels, in whole dB, differ by more than 2 */
+    RUTHIMPO_NO_SUCH_STAGE = 255           /* the stage of a production check is above 6 */
 };
 
 /* Places of the result record (document 01, "L_urban"). From W on they are 16-bit numbers, low byte first. */
@@ -93,7 +100,8 @@ enum ruthimpo_field {
  *
  * Answers 0 and puts the result record into the first 32 bytes of `result`; the bytes after them keep what they held.
  * Or answers the number of the refusal, the first cause in the order 1 to 5, 11, 12, 6 to 10, and leaves all of `result` as it
- * was; the place of the refusal goes to `place`. On success `place` is 0. */
+ * was; the place of the refusal goes to `place`. 14 stands where 7 does in this order, and 15 where 10 does: the lowest gear
+ * without a window is named, and its own shortage gives the number. On success `place` is 0. */
 uint32_t ruthimpo_evaluate(const uint8_t *sheet, size_t sheet_bytes, uint8_t *result, size_t result_bytes,
                            size_t *place);
 

@@ -50,7 +50,7 @@ extern "C" {
     ) -> u32;
 }
 
-/// A refusal of document 01 or of document 02, wishes 1, 11, 13 and 14, or that of a stage that no production check has: its
+/// A refusal of document 01 or of document 02, wishes 1, 5, 11, 13 and 14, or that of a stage that no production check has: its
 /// number, and the record (from 0), the gear, the level (from 1), the side (1 left, 2 right) or the number of cars counted that it
 /// names, or 0 if it names none.
 #[derive(Clone, Copy, Debug, PartialEq, Eq)]
@@ -67,12 +67,14 @@ impl Refusal {
     pub const NO_CLOSING: u32 = 4;
     pub const BROKEN_RECORD: u32 = 5;
     pub const PMR_OUT_OF_RANGE: u32 = 6;
-    pub const NO_WINDOW: u32 = 7;
+    pub const TOO_FEW: u32 = 7;
     pub const NOT_FALLING: u32 = 8;
     pub const NO_RULE: u32 = 9;
-    pub const NO_CONSTANT_SPEED: u32 = 10;
+    pub const CONSTANT_SPEED_TOO_FEW: u32 = 10;
     pub const NO_LIMIT_FOR_N1: u32 = 11;
     pub const NO_LIMIT_ENTRY: u32 = 12;
+    pub const TOO_WIDE: u32 = 14;
+    pub const CONSTANT_SPEED_TOO_WIDE: u32 = 15;
     pub const CAR_AFTER_VERDICT: u32 = 20;
     pub const REAR_OVERLOADED: u32 = 21;
     pub const LEVEL_OUT_OF_RANGE: u32 = 22;
@@ -227,19 +229,21 @@ fn masses_by(call: impl FnOnce(*mut u64, *mut usize) -> u32) -> Result<Masses, R
 mod tests {
     use super::*;
 
-    const NAMES: [(&str, u32); 20] = [
+    const NAMES: [(&str, u32); 22] = [
         ("SHORT_BUFFER", Refusal::SHORT_BUFFER),
         ("WRONG_SIZE", Refusal::WRONG_SIZE),
         ("NO_VEHICLE", Refusal::NO_VEHICLE),
         ("NO_CLOSING", Refusal::NO_CLOSING),
         ("BROKEN_RECORD", Refusal::BROKEN_RECORD),
         ("PMR_OUT_OF_RANGE", Refusal::PMR_OUT_OF_RANGE),
-        ("NO_WINDOW", Refusal::NO_WINDOW),
+        ("TOO_FEW", Refusal::TOO_FEW),
         ("NOT_FALLING", Refusal::NOT_FALLING),
         ("NO_RULE", Refusal::NO_RULE),
-        ("NO_CONSTANT_SPEED", Refusal::NO_CONSTANT_SPEED),
+        ("CONSTANT_SPEED_TOO_FEW", Refusal::CONSTANT_SPEED_TOO_FEW),
         ("NO_LIMIT_FOR_N1", Refusal::NO_LIMIT_FOR_N1),
         ("NO_LIMIT_ENTRY", Refusal::NO_LIMIT_ENTRY),
+        ("TOO_WIDE", Refusal::TOO_WIDE),
+        ("CONSTANT_SPEED_TOO_WIDE", Refusal::CONSTANT_SPEED_TOO_WIDE),
         ("CAR_AFTER_VERDICT", Refusal::CAR_AFTER_VERDICT),
         ("REAR_OVERLOADED", Refusal::REAR_OVERLOADED),
         ("LEVEL_OUT_OF_RANGE", Refusal::LEVEL_OUT_OF_RANGE),

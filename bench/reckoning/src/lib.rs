@@ -81,7 +81,7 @@ impl Evaluation {
     }
 }
 
-/// Refusals 6 to 10, or the evaluation.
+/// Refusals 6 to 10, 14 and 15, or the evaluation.
 fn evaluation(session: &Session) -> Result<Evaluation, Refusal> {
     let vehicle = &session.vehicle;
     let pmr = rounded(1000 * vehicle.power, vehicle.mass);
@@ -95,12 +95,12 @@ fn evaluation(session: &Session) -> Result<Evaluation, Refusal> {
     check_falling(&gears)?;
     let Choice { rule, i, j } = choose(&gears, a_ref, a_urban).ok_or((9, 0))?;
     let constant = |gear: Gear| runs.constant_window(gear.gear).map(|window| window.level());
-    let c_i = constant(i).ok_or((10, i.gear.into()))?;
+    let c_i = constant(i)?;
 
     let (k, a_test, w, c) = match j {
         None => (100, i.a, i.level, c_i),
         Some(j) => {
-            let c_j = constant(j).ok_or((10, j.gear.into()))?;
+            let c_j = constant(j)?;
             let k = rounded(100 * (a_ref - j.a), i.a - j.a);
             (k, a_ref, weighed(k, i.level, j.level), weighed(k, c_i, c_j))
         }
@@ -111,11 +111,11 @@ fn evaluation(session: &Session) -> Result<Evaluation, Refusal> {
     Ok(Evaluation { rule, i: i.gear, j, k, kp, passes, w, c, l_urban, a_urban, a_ref, pmr, a_test })
 }
 
-/// Refusal 7, or the gears left after dropping those above the rated engine speed.
+/// Refusal 7 or 14, or the gears left after dropping those above the rated engine speed.
 fn remaining_gears(runs: &RunsByGear, vehicle: &Vehicle) -> Result<Vec<Gear>, Refusal> {
     let windows = runs
         .driven()
-        .map(|gear| runs.acceleration_window(gear).map(|window| (gear, window)).ok_or((7, gear.into())))
+        .map(|gear| Ok((gear, runs.acceleration_window(gear)?)))
         .collect::<Result<Vec<(u8, Window)>, Refusal>>()?;
     if windows.is_empty() {
         return Err((7, 0));

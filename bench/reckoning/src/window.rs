@@ -1,7 +1,7 @@
-//! Valid runs and windows (document 01, "From levels to windows"; document 02, wishes 2 and 8).
+//! Valid runs and windows (document 01, "From levels to windows"; document 02, wishes 2, 5 and 8).
 
-use crate::rounded;
 use crate::sheet::{Background, Reading, Run, RunKind, Session};
+use crate::{rounded, Refusal};
 
 /// Tenths taken off, by the whole decibels from 10 on.
 const CORRECTIONS: [i32; 6] = [5, 4, 3, 2, 1, 0];
@@ -57,17 +57,26 @@ fn span(four: &[ValidRun], side: impl Fn(&ValidRun) -> i32) -> i32 {
     highest - lowest
 }
 
+/// Why there is no window: fewer than four valid runs, or no four neighbours within the span.
+enum Shortage {
+    TooFew,
+    TooWide,
+}
+
 /// Four neighbouring valid runs of one gear and run kind.
 #[derive(Clone, Copy)]
 pub struct Window<'a>(&'a [ValidRun]);
 
 impl<'a> Window<'a> {
     /// Step 4: the first window.
-    fn first(runs: &'a [ValidRun]) -> Option<Window<'a>> {
+    fn first(runs: &'a [ValidRun]) -> Result<Window<'a>, Shortage> {
+        if runs.len() < 4 {
+            return Err(Shortage::TooFew);
+        }
         let is_window = |four: &&[ValidRun]| {
             span(four, |run| run.left) <= WIDEST_SPAN && span(four, |run| run.right) <= WIDEST_SPAN
         };
-        runs.windows(4).find(is_window).map(Window)
+        runs.windows(4).find(is_window).map(Window).ok_or(Shortage::TooWide)
     }
 
     /// Step 5, in tenths.
@@ -117,11 +126,19 @@ impl RunsByGear {
         (1..=16).filter(|&gear| self.driven[usize::from(gear) - 1])
     }
 
-    pub fn acceleration_window(&self, gear: u8) -> Option<Window<'_>> {
-        Window::first(&self.acceleration[usize::from(gear) - 1])
+    /// Refusal 7 or 14, or the window.
+    pub fn acceleration_window(&self, gear: u8) -> Result<Window<'_>, Refusal> {
+        Window::first(&self.acceleration[usize::from(gear) - 1]).map_err(|shortage| match shortage {
+            Shortage::TooFew => (7, gear.into()),
+            Shortage::TooWide => (14, gear.into()),
+        })
     }
 
-    pub fn constant_window(&self, gear: u8) -> Option<Window<'_>> {
-        Window::first(&self.constant[usize::from(gear) - 1])
+    /// Refusal 10 or 15, or the window.
+    pub fn constant_window(&self, gear: u8) -> Result<Window<'_>, Refusal> {
+        Window::first(&self.constant[usize::from(gear) - 1]).map_err(|shortage| match shortage {
+            Shortage::TooFew => (10, gear.into()),
+            Shortage::TooWide => (15, gear.into()),
+        })
     }
 }

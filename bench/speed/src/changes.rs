@@ -12,6 +12,9 @@ const HIGHEST: u32 = 0x430C_0000;
 /// Tenths, from one that no level is near to one that makes some levels not valid.
 const BACKGROUNDS: [u16; 5] = [300, 400, 500, 550, 580];
 
+/// How many runs a gear has if they are too far apart for a window.
+const WIDE_COUNTS: [usize; 12] = [4, 4, 4, 5, 6, 8, 16, 17, 18, 19, 20, 40];
+
 /// The PMR, in tenths, up to which a row of the limits reaches.
 const CLASS_EDGES: [i64; 3] = [1200, 1600, 2000];
 
@@ -89,7 +92,17 @@ fn vehicle(random: &mut Random) -> Vehicle {
     }
 }
 
-/// A session of a few gears with falling accelerations, whose runs mostly lie close together.
+/// A gear's runs of one kind: their level, about which they lie, and their speeds.
+#[derive(Clone, Copy)]
+struct Group {
+    kind: u8,
+    gear: u8,
+    level: f32,
+    speeds: [u16; 2],
+}
+
+/// A session of a few gears with falling accelerations, whose runs mostly lie close together. In some sessions gears lack windows of
+/// acceleration runs, of runs at constant speed, or of both, and a few have no acceleration run.
 fn session(random: &mut Random) -> Vec<u8> {
     let vehicle = vehicle(random);
     let pmr = u32::from(vehicle.power) * 1000 / u32::from(vehicle.mass);
@@ -98,17 +111,26 @@ fn session(random: &mut Random) -> Vec<u8> {
     let gears = random.pick(&[1, 1, 2, 2, 3, 4, 6, 16]);
     let step = random.pick(&[3, 10, 20, 40, 90]);
     let mut a = i64::from(reference) + random.between(-20, step * i64::from(gears));
+    let lacking: &[u8] = match random.below(20) {
+        0..3 => &[ACCELERATION],
+        3..8 => &[CONSTANT],
+        8 => &[ACCELERATION, CONSTANT],
+        _ => &[],
+    };
     let mut runs: Vec<Record> = Vec::new();
     for gear in 1..=gears {
         let level = random.between(6200, 7800) as f32 / 100.0;
         let speeds = speeds_for(a.clamp(0, 600) as u32, vehicle.path());
-        runs.extend((0..runs_of(random)).map(|_| some_run(random, ACCELERATION, gear, level, speeds)));
+        runs.extend(runs_of(random, Group { kind: ACCELERATION, gear, level, speeds }, lacking));
         if random.chance(95) {
             let level = level - random.between(-20, 90) as f32 / 10.0;
-            runs.extend((0..runs_of(random)).map(|_| some_run(random, CONSTANT, gear, level, [500, 500])));
+            runs.extend(runs_of(random, Group { kind: CONSTANT, gear, level, speeds: [500, 500] }, lacking));
         }
         let least = if random.chance(5) { 0 } else { 1 };
         a -= random.between(least, step);
+    }
+    if random.chance(1) {
+        runs.retain(|record| record[0] == CONSTANT);
     }
     if random.chance(30) {
         shuffle(random, &mut runs);
@@ -117,15 +139,57 @@ fn session(random: &mut Random) -> Vec<u8> {
     sheet(&vehicle, &runs, after)
 }
 
-fn runs_of(random: &mut Random) -> usize {
-    if random.chance(3) {
-        3
-    } else {
-        random.pick(&[4, 4, 4, 5, 6, 8])
+/// The runs of a group: mostly too few or too far apart, if windows of its kind are lacking.
+fn runs_of(random: &mut Random, group: Group, lacking: &[u8]) -> Vec<Record> {
+    match random.below(10) {
+        0..2 if lacking.contains(&group.kind) => too_few(random, group),
+        2..6 if lacking.contains(&group.kind) => too_wide(random, group),
+        _ => {
+            let count = if random.chance(3) { 3 } else { random.pick(&[4, 4, 4, 5, 6, 8]) };
+            some_runs(random, group, count)
+        }
     }
 }
 
-fn some_run(random: &mut Random, kind: u8, gear: u8, level: f32, speeds: [u16; 2]) -> Record {
+/// At most three valid runs, with others among them in most groups.
+fn too_few(random: &mut Random, group: Group) -> Vec<Record> {
+    let (valid, others) = (random.below(4), random.pick(&[0, 1, 1, 3, 6, 20]));
+    let mut runs = some_runs(random, group, valid + others);
+    runs[valid..].iter_mut().for_each(|record| set_aside(random, record));
+    shuffle(random, &mut runs);
+    runs
+}
+
+/// Four runs or more, of which any four neighbours span 2.0 dB, the most that a window may, or more on one side. One of them may be
+/// not valid, and a window may follow.
+fn too_wide(random: &mut Random, group: Group) -> Vec<Record> {
+    let Group { kind, gear, level, speeds } = group;
+    let count = if random.chance(1) { 300 } else { random.pick(&WIDE_COUNTS) };
+    let (side, every) = (random.below(2), random.pick(&[2, 3, 4]));
+    let apart = random.pick(&[20, 21, 21, 22, 60]) as f32 / 10.0;
+    let mut runs: Vec<Record> = (0..count)
+        .map(|at| {
+            let mut levels = [level; 2];
+            levels[side] += if at % every == 0 { apart } else { 0.0 };
+            run(kind, gear, levels, speeds)
+        })
+        .collect();
+    if random.chance(20) {
+        let at = random.below(count);
+        set_aside(random, &mut runs[at]);
+    }
+    if random.chance(10) {
+        runs.extend([run(kind, gear, [level; 2], speeds); 4]);
+    }
+    runs
+}
+
+fn some_runs(random: &mut Random, group: Group, count: usize) -> Vec<Record> {
+    (0..count).map(|_| some_run(random, group)).collect()
+}
+
+fn some_run(random: &mut Random, group: Group) -> Record {
+    let Group { kind, gear, level, speeds } = group;
     let spread = if random.chance(2) { 25 } else { 9 };
     let mut near = || {
         let step = random.between(-spread, spread) as f32 / 10.0;
@@ -134,16 +198,23 @@ fn some_run(random: &mut Random, kind: u8, gear: u8, level: f32, speeds: [u16; 2
     };
     let mut record = run(kind, gear, [near(), near()], speeds);
     match random.below(150) {
-        0 => record[2] = 1,
-        1 => record[3] = 2,
-        2 => {
-            record[4] = 0;
-            record[12..16].fill(0);
-        }
+        0..3 => set_aside(random, &mut record),
         3 => put(&mut record, 20, random.between(0, 20_000) as u16),
         _ => {}
     }
     record
+}
+
+/// A run made one that is not valid: struck, overloaded, or without a reading.
+fn set_aside(random: &mut Random, record: &mut Record) {
+    match random.below(3) {
+        0 => record[2] = 1,
+        1 => record[3] = 2,
+        _ => {
+            record[4] = 0;
+            record[12..16].fill(0);
+        }
+    }
 }
 
 fn shuffle(random: &mut Random, runs: &mut [Record]) {

@@ -216,8 +216,13 @@ impl Group {
             self.seen >= 4 && spans(self.last.map(|run| run.left)) && spans(self.last.map(|run| run.right));
     }
 
-    fn window(&self) -> Option<&Window> {
-        self.is_window.then_some(&self.last)
+    /// The window, or the number of the refusal: `few` below four valid runs, `wide` from four on.
+    fn window(&self, few: u32, wide: u32) -> Result<&Window, u32> {
+        if self.is_window {
+            Ok(&self.last)
+        } else {
+            Err(if self.seen < 4 { few } else { wide })
+        }
     }
 }
 
@@ -290,7 +295,7 @@ impl Groups {
         Ok(record)
     }
 
-    /// Refusal 7, or the gears that remain.
+    /// Refusal 7 or 14, or the gears that remain.
     fn remaining(&self, vehicle: &Record) -> Result<([Gear; 16], usize), Refusal> {
         if !self.driven.contains(&true) {
             return Err((7, 0));
@@ -298,7 +303,7 @@ impl Groups {
         let path = u32::from(number(vehicle, 8)) + if vehicle[2] == 0 { 2000 } else { 1000 };
         let (mut gears, mut count) = ([Gear::default(); 16], 0);
         for (at, group) in self.acceleration.iter().enumerate().filter(|&(at, _)| self.driven[at]) {
-            let window = group.window().ok_or((7, at as u32 + 1))?;
+            let window = group.window(7, 14).map_err(|number| (number, at as u32 + 1))?;
             if window.iter().all(|run| run.engine <= number(vehicle, 10)) {
                 let a = rounded(window.iter().map(|run| run.acceleration(path)).sum(), 4);
                 gears[count] = Gear { number: at as u8 + 1, a, level: level(window) };
@@ -308,9 +313,10 @@ impl Groups {
         Ok((gears, count))
     }
 
+    /// Refusal 10 or 15, or the level.
     fn constant_level(&self, gear: Gear) -> Result<u32, Refusal> {
         let group = &self.constant[usize::from(gear.number) - 1];
-        group.window().map(level).ok_or((10, gear.number.into()))
+        group.window(10, 15).map(level).map_err(|number| (number, gear.number.into()))
     }
 }
 

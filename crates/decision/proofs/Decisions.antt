@@ -2,9 +2,10 @@
 use mathlib.Core.Path.{_≡_, sym, ap, ap₂, _∙_}
 use mathlib.Core.Bool.{true, false}
 use mathlib.Core.List.{List}
-use Prim.Native.Nat.{ℕ, _+_, _-_, _≤_, _<_}
+use Prim.Native.Nat.{ℕ, _-_, _≤_, _<_}
 use lib.ListN.{length}
 use borrow.Author.Tests.{lt-ltb, le-ltb}
+use Rattle.refusal.specs.declared.Shortage.{Shortage}
 use Rattle.refusal.specs.declared.Refusal.{Refusal}
 use Rattle.refusal.specs.declared.Refusal.the-variants as refusal
 use Rattle.record.specs.declared.Backgrounds.{Backgrounds}
@@ -21,9 +22,10 @@ use Rattle.limit.specs.declared.Limit.{Limit}
 use Rattle.limit.specs.Limits.{limitOf}
 use Rattle.gears.specs.declared.Gear.{Gear}
 use Rattle.gears.specs.Rules.{gearAt, firstNotFalling, choiceOf}
-use Rattle.session.specs.Session.{Session, sessionOf, lowestNoWindow, gearsOf, windowsOf}
+use Rattle.session.specs.declared.WithoutWindow.the-variants as without
+use Rattle.session.specs.Session.{Session, sessionOf, withoutWindow, gearsOf, windowsOf}
 use Rattle.decision.specs.declared.Decision.the-variants.{Refused}
-use Rattle.decision.specs.Decision.{outOfRange, selectedIn, finishBy, decideGears, decideWhole, trackOf, decideLimited, decideBy, decisionOver, sheetVehicle, sheetClosing, sheetBackgrounds, pmrIn, sheetLimit, decisionOf}
+use Rattle.decision.specs.Decision.{outOfRange, selectedIn, finishBy, decideGears, unlessWithout, decideWhole, trackOf, decideLimited, decideBy, decisionOver, sheetVehicle, sheetClosing, sheetBackgrounds, pmrIn, sheetLimit, decisionOf}
 
 -- ---- rows 2 to 5
 
@@ -54,13 +56,13 @@ module _ (t : Session) (q limit : ℕ) where
     unfolding decideWhole
     row-7-none e = simp (range, e)
 
-    pub row-7-gear : anyAcceleration (t .sheet) ≡ true → lowestNoWindow t < 16 → decideWhole t q limit ≡ Refused (refusal.NoWindow (lowestNoWindow t + 1))
-    unfolding decideWhole
-    row-7-gear e l = simp (range, e, lt-ltb (lowestNoWindow t) 16 l)
+    pub row-7-gear : anyAcceleration (t .sheet) ≡ true → (gear : ℕ) (x : Shortage) → withoutWindow t ≡ without.Gear gear x → decideWhole t q limit ≡ Refused (refusal.NoWindow gear x)
+    unfolding decideWhole unlessWithout
+    row-7-gear e gear x w = simp (range, e, w)
 
-    pub rows-8-to-10 : anyAcceleration (t .sheet) ≡ true → 16 ≤ lowestNoWindow t → decideWhole t q limit ≡ decideGears (referenceAt q) limit t (gearsOf t) (windowsOf t)
-    unfolding decideWhole
-    rows-8-to-10 e l = simp (range, e, le-ltb (lowestNoWindow t) 16 l)
+    pub rows-8-to-10 : anyAcceleration (t .sheet) ≡ true → withoutWindow t ≡ without.NoGear → decideWhole t q limit ≡ decideGears (referenceAt q) limit t (gearsOf t) (windowsOf t)
+    unfolding decideWhole unlessWithout
+    rows-8-to-10 e w = simp (range, e, w)
 
 -- ---- rows 8 to 10
 

@@ -17,7 +17,9 @@ use Rattle.limit.specs.declared.Limit.{Limit}
 use Rattle.limit.specs.declared.Limit.the-variants as limits
 use Rattle.gears.specs.Rules.{firstNotFalling}
 use Rattle.gears.proofs.Choices.{Selectable, sound}
-use Rattle.session.specs.Session.{lowestNoWindow, gearsOf, windowsOf}
+use Rattle.session.specs.declared.WithoutWindow.{WithoutWindow}
+use Rattle.session.specs.declared.WithoutWindow.the-variants as without
+use Rattle.session.specs.Session.{withoutWindow, gearsOf, windowsOf}
 use Rattle.urban.specs.declared.Chosen.{Chosen}
 use Rattle.urban.specs.declared.Outcome.{Outcome}
 use Rattle.urban.specs.Urban.{Straddled, basisOf, outcomeOf}
@@ -25,7 +27,7 @@ use Rattle.decision.specs.declared.Selection.{Selection}
 use Rattle.decision.specs.declared.Selection.the-variants as selection
 use Rattle.decision.specs.declared.Decision.{Decision}
 use Rattle.decision.specs.declared.Decision.the-variants.{Result}
-use Rattle.decision.specs.Decision.{outOfRange, Straddling, finishBy, decideGears, decideWhole, decideLimited, decideBy, decisionOver, sheetVehicle, sheetClosing, sheetBackgrounds, pmrIn, sheetLimit, decisionOf, sheetSession, referenceIn, choiceIn, selectionIn}
+use Rattle.decision.specs.Decision.{outOfRange, Straddling, finishBy, decideGears, unlessWithout, decideWhole, decideLimited, decideBy, decisionOver, sheetVehicle, sheetClosing, sheetBackgrounds, pmrIn, sheetLimit, decisionOf, sheetSession, referenceIn, choiceIn, selectionIn}
 use Rattle.decision.proofs.Selections.{straddling, Measuring, measuring}
 
 pub record Decided (s : List ℕ) (o : Outcome) (limit : ℕ) : Type 0 where
@@ -79,6 +81,11 @@ module _ (s : List ℕ) (o : Outcome) (limit : ℕ) (w : WholeSheet s (sheetVehi
   Then : Decision → Type 0
   Then d = d ≡ Result o limit → Decided s o limit
 
+  by-without : (w : WithoutWindow) (d : Decision) → Then d → Then (unlessWithout w d)
+  unfolding Then unlessWithout
+  by-without (without.Gear gear x) d then e = absurd (let y : _≡_ {A = ℕ} 0 1 = cc in omega arith)
+  by-without without.NoGear d then e = then e
+
   from-whole : (n : ℕ) → sheetLimit s ≡ limits.Found n → Then (decideWhole (sheetSession s) (pmrIn s) n)
   unfolding Then decideWhole decideGears referenceIn choiceIn selectionIn sheetSession
   from-whole n found =
@@ -86,8 +93,8 @@ module _ (s : List ℕ) (o : Outcome) (limit : ℕ) (w : WholeSheet s (sheetVehi
       (λ p.
       let range = neither (ltb (pmrIn s) 50) (ltb 6000 (pmrIn s)) p in
       by-test Then (not (anyAcceleration s)) _ _ (λ k e. absurd (let y : _≡_ {A = ℕ} 0 1 = cc in omega arith))
-      (λ k. by-test Then (ltb (lowestNoWindow (sheetSession s)) 16) _ _ (λ l e. absurd (let y : _≡_ {A = ℕ} 0 1 = cc in omega arith))
-      (λ l. by-test Then (ltb (firstNotFalling (gearsOf (sheetSession s))) (length (gearsOf (sheetSession s)) - 1)) _ _ (λ f e. absurd (let y : _≡_ {A = ℕ} 0 1 = cc in omega arith))
+      (λ k. by-without (withoutWindow (sheetSession s)) _
+      (by-test Then (ltb (firstNotFalling (gearsOf (sheetSession s))) (length (gearsOf (sheetSession s)) - 1)) _ _ (λ f e. absurd (let y : _≡_ {A = ℕ} 0 1 = cc in omega arith))
       (λ f e. from-gears n found (ltb-false (pmrIn s) 50 (range .0)) (ltb-false 6000 (pmrIn s) (range .1)) e))))
 
   from-limit : (l : Limit) → sheetLimit s ≡ l → Then (decideLimited (sheetSession s) (pmrIn s) l)

@@ -40,13 +40,13 @@ straddling r t gs ws choice.Nothing h = tt
 straddling r t gs ws (choice.One rule p) h = by (windowIn t 3 (gearAt gs p .number))
   where
     by : (w : Window) → Straddling r (oneOf rule (measuredBy (gearAt gs p) (windowAt ws p) w))
-    by window.Nothing = tt
+    by (window.Nothing x) = tt
     by (window.Runs x) = tt
 straddling r t gs ws (choice.Pair rule p) h = by (windowIn t 3 (gearAt gs p .number)) (windowIn t 3 (gearAt gs (p + 1) .number))
   where
     by : (v w : Window) → Straddling r (pairOf rule (measuredBy (gearAt gs p) (windowAt ws p) v) (measuredBy (gearAt gs (p + 1)) (windowAt ws (p + 1)) w))
-    by window.Nothing w = tt
-    by (window.Runs x) window.Nothing = tt
+    by (window.Nothing x) w = tt
+    by (window.Runs x) (window.Nothing y) = tt
     by (window.Runs x) (window.Runs y) = (h .below, h .above)
 
 -- ---- the windows of the chosen gears
@@ -76,13 +76,13 @@ module _ (t : Session) where
 
   one : (rule p : ℕ) (w : Window) → p < length (gearsOf t) → windowIn t 3 (gear p .number) ≡ w → Measuring t (oneOf rule (measuredBy (gear p) (four p) w))
   unfolding oneOf measuredBy
-  one rule p window.Nothing l e = tt
+  one rule p (window.Nothing x) l e = tt
   one rule p (window.Runs h) l e = at-place p h l e
 
   two : (rule p : ℕ) (v w : Window) → p + 1 < length (gearsOf t) → windowIn t 3 (gear p .number) ≡ v → windowIn t 3 (gear (p + 1) .number) ≡ w → Measuring t (pairOf rule (measuredBy (gear p) (four p) v) (measuredBy (gear (p + 1)) (four (p + 1)) w))
   unfolding pairOf measuredBy gear gearAt
-  two rule p window.Nothing w l d e = tt
-  two rule p (window.Runs h) window.Nothing l d e = tt
+  two rule p (window.Nothing x) w l d e = tt
+  two rule p (window.Runs h) (window.Nothing x) l d e = tt
   two rule p (window.Runs h) (window.Runs k) l d e = (at-place p h (omega arith) d, at-place (p + 1) k l e, numbers-rise t emptyGear p l)
 
   -- every chosen gear has its two windows, and gear i of a pair has the lower number

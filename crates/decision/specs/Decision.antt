@@ -1,6 +1,7 @@
--- What is decided for a byte string (document 01, "Refusals and what remains"; document 02, wish 1): the first refusal of the table whose cause
--- holds, or the fields of the result and the limit found. Rows 2 to 5 are the sheet's, rows 11 and 12, which follow them, the limit's; rows 6 to 10
--- are here; row 1 is the evaluation's.
+-- What is decided for a byte string (document 01, "Refusals and what remains"; document 02, wishes 1 and 5): the first refusal of the table whose
+-- cause holds, or the fields of the result and the limit found. Rows 2 to 5 are the sheet's, rows 11 and 12, which follow them, the limit's; rows 6 to
+-- 10 are here; row 1 is the evaluation's. A gear without a window is refused by row 7 or 10 whichever its shortage, and has 14 or 15 for its number if
+-- its runs are too wide.
 use mathlib.Core.Bool.{Bool, cond, not, _||_}
 use mathlib.Core.List.{List}
 use Prim.Native.Nat.{ℕ, _+_, _-_}
@@ -29,7 +30,9 @@ use Rattle.gears.specs.declared.Choice.{Choice}
 use Rattle.gears.specs.declared.Choice.the-variants as choice
 use Rattle.gears.specs.Rules.{gearAt, firstNotFalling, choiceOf}
 use Rattle.session.specs.declared.Track.{Track}
-use Rattle.session.specs.Session.{Session, sessionOf, windowIn, lowestNoWindow, gearsOf, windowsOf}
+use Rattle.session.specs.declared.WithoutWindow.{WithoutWindow}
+use Rattle.session.specs.declared.WithoutWindow.the-variants as without
+use Rattle.session.specs.Session.{Session, sessionOf, windowIn, withoutWindow, gearsOf, windowsOf}
 use Rattle.urban.specs.declared.Chosen.the-variants.{One, Pair}
 use Rattle.urban.specs.Urban.{Straddled, basisOf, outcomeOf}
 use Rattle.decision.specs.declared.Measured.{Measured}
@@ -53,7 +56,7 @@ windowAt ws p = getD ws p emptyFour
 
 -- row 10 for a gear with its acceleration window, by its constant-speed window
 unfoldable pub measuredBy : Gear → Four → Window → Measured
-measuredBy g f window.Nothing = measured.Refused (refusal.NoConstantSpeed (g .number))
+measuredBy g f (window.Nothing shortage) = measured.Refused (refusal.NoConstantSpeed (g .number) shortage)
 measuredBy g f (window.Runs h) = measured.Windows (record { gear = g; «acceleration_window» = f; «constant_window» = h })
 
 -- the gear at a place of the remaining ones; a constant-speed run is of kind 3
@@ -94,13 +97,17 @@ decideGears r limit t gs ws =
     cond (ltb (firstNotFalling gs) (length gs - 1)) (Refused (refusal.NotFalling (gearAt gs (firstNotFalling gs) .number)))
     (finishBy r limit (selectedIn t gs ws (choiceOf r gs)))
 
+-- row 7 for a gear that has acceleration runs and no window, by its shortage; where there is no such gear, what the rows after it give
+unfoldable pub unlessWithout : WithoutWindow → Decision → Decision
+unlessWithout (without.Gear gear shortage) d = Refused (refusal.NoWindow gear shortage)
+unlessWithout without.NoGear d = d
+
 -- rows 6 to 10, for a whole sheet of PMR q (in tenths) and a limit
 unfoldable pub decideWhole : Session → ℕ → ℕ → Decision
 decideWhole t q limit =
     cond (outOfRange q) (Refused refusal.PmrOutOfRange)
     (cond (not (anyAcceleration (t .sheet))) (Refused refusal.NoRun)
-    (cond (ltb (lowestNoWindow t) 16) (Refused (refusal.NoWindow (lowestNoWindow t + 1)))
-    (decideGears (referenceAt q) limit t (gearsOf t) (windowsOf t))))
+    (unlessWithout (withoutWindow t) (decideGears (referenceAt q) limit t (gearsOf t) (windowsOf t))))
 
 -- rows 11 and 12 are the limit's
 unfoldable pub decideLimited : Session → ℕ → Limit → Decision

@@ -10,6 +10,7 @@ use reference::Reference;
 use refusal::Refusal;
 use session::Table;
 use session::Track;
+use session::WithoutWindow;
 use sheet::Examination;
 use urban::Chosen;
 use urban::ChosenGear;
@@ -55,7 +56,10 @@ fn measure(sheet: &[u8], track: Track, g: Gear, f: Four) -> Measured
             acceleration_window: f,
             constant_window: h,
         }),
-        Window::Nothing => Measured::Refused(Refusal::NoConstantSpeed(g.number)),
+        Window::Nothing(shortage) => Measured::Refused(Refusal::NoConstantSpeed(
+            g.number,
+            shortage,
+        )),
     }
 }
 
@@ -174,8 +178,9 @@ fn decide_whole(sheet: &[u8], track: Track, pmr: u32, limit: u16) -> Decision
         return Decision::Refused(Refusal::NoRun);
     }
     let table = session::table_of(sheet, track);
-    if table.no_window < 16 {
-        return Decision::Refused(Refusal::NoWindow((table.no_window + 1) as u8));
+    let without_window = table.without_window;
+    if let WithoutWindow::Gear(gear, shortage) = without_window {
+        return Decision::Refused(Refusal::NoWindow(gear, shortage));
     }
     let reference = reference::reference_at(pmr as u16);
     decide_table(sheet, track, reference, limit, table)

@@ -4,6 +4,7 @@ pub mod InKeyOrder
 pub mod OnlyLevels
 pub mod Rising
 pub mod Rows
+pub mod OneNumber
 pub mod SameRuns
 pub mod Verdicts
 pub mod EarlierSheets

@@ -3,3 +3,4 @@ pub mod Rows
 pub mod Demand
 pub mod EarlierSheets
 pub mod LimitFound
+pub mod OneNumber

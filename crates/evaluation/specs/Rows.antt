@@ -1,12 +1,15 @@
--- The table of refusals (document 01, "Refusals and what remains"; document 02, wish 1), row by row in the order of checking, each a number, a cause
--- and a place; and what it is to be the first row whose cause holds. The numbers are not in order: rows 11 and 12 stand between 5 and 6. The rows
--- after 5 read the first and the last record as a vehicle and a closing record, which they are where no row before holds.
+-- The table of refusals (document 01, "Refusals and what remains"; document 02, wishes 1 and 5), row by row in the order of checking, each a number, a
+-- cause and a place; and what it is to be the first row whose cause holds. The numbers are not in order: rows 11 and 12 stand between 5 and 6, and a
+-- gear without a window has one row for both numbers that it may have. The rows after 5 read the first and the last record as a vehicle and a closing
+-- record, which they are where no row before holds.
 use mathlib.Core.Path.{_≡_}
 use mathlib.Core.Bool.{Bool, true, false, cond, not, _||_}
 use mathlib.Core.List.{List, [], _∷_}
 use Prim.Native.Nat.{ℕ, _-_, _+_, _<_}
 use lib.Dec.{ltb}
 use lib.ListN.{length, getD}
+use Rattle.refusal.specs.declared.Shortage.{Shortage}
+use Rattle.refusal.specs.Refusal.{WindowNumbers, windowNumbers}
 use Rattle.record.specs.Records.{records}
 use Rattle.sheet.specs.Sheet.{lastOf, wrongSize, noVehicle, noClosing, lowestBroken, anyAcceleration}
 use Rattle.window.specs.declared.Window.{Window}
@@ -15,7 +18,7 @@ use Rattle.limit.specs.Limits.{noLimitForN1, noLimitEntry}
 use Rattle.gears.specs.declared.Choice.{Choice}
 use Rattle.gears.specs.declared.Choice.the-variants as choice
 use Rattle.gears.specs.Rules.{gearAt, firstNotFalling}
-use Rattle.session.specs.Session.{Session, windowIn, lowestNoWindow, gearsOf}
+use Rattle.session.specs.Session.{Session, windowIn, shortageIn, lowestNoWindow, gearsOf}
 use Rattle.decision.specs.Decision.{outOfRange, sheetVehicle, sheetSession, pmrIn, choiceIn}
 
 pub record Row : Type 0 where
@@ -37,7 +40,7 @@ undecided choice.Nothing = true
 -- there is no window
 abbrev pub missing : Window → Bool
 missing (window.Runs f) = false
-missing window.Nothing = true
+missing (window.Nothing shortage) = true
 
 -- the number of the gear at a place, and whether that gear has no constant-speed window
 abbrev pub gearNumber : Session → ℕ → ℕ
@@ -60,8 +63,13 @@ lowestNoConstant t choice.Nothing = 0
 
 -- ---- the table, for a sheet and a result buffer of this size
 
-unfoldable pub rows : List ℕ → ℕ → List Row
-rows s size =
+-- the row of a gear without a window of this run kind: its number goes by the gear's own shortage
+abbrev pub windowRow : (Shortage → ℕ) → Session → ℕ → Bool → ℕ → Row
+windowRow numbers t kind holds gear = row (numbers (shortageIn t kind gear)) holds gear
+
+-- with these numbers of a missing window
+unfoldable pub rowsBy : WindowNumbers → List ℕ → ℕ → List Row
+rowsBy numbers s size =
     let t = sheetSession s in
     let gears = gearsOf t in
     row 1 (ltb size 32) 0
@@ -73,14 +81,19 @@ rows s size =
     ∷ row 11 (noLimitForN1 (sheetVehicle s)) 0
     ∷ row 12 (noLimitEntry (sheetVehicle s)) 0
     ∷ row 6 (outOfRange (pmrIn s)) 0
-    -- no acceleration run, or a gear with one and no window
+    -- no acceleration run, or a gear with one and no acceleration window, of kind 2
     ∷ row 7 (not (anyAcceleration s)) 0
-    ∷ row 7 (ltb (lowestNoWindow t) 16) (lowestNoWindow t + 1)
+    ∷ windowRow (numbers .acceleration) t 2 (ltb (lowestNoWindow t) 16) (lowestNoWindow t + 1)
     -- neighbours that do not fall: the lower of the first
     ∷ row 8 (ltb (firstNotFalling gears) (length gears - 1)) (gearNumber t (firstNotFalling gears))
     ∷ row 9 (undecided (choiceIn s)) 0
-    ∷ row 10 (noConstant t (choiceIn s)) (lowestNoConstant t (choiceIn s))
+    -- a chosen gear without a constant-speed window, of kind 3
+    ∷ windowRow (numbers .constant) t 3 (noConstant t (choiceIn s)) (lowestNoConstant t (choiceIn s))
     ∷ []
+
+-- with 7 or 14, and 10 or 15
+abbrev pub rows : List ℕ → ℕ → List Row
+rows s size = rowsBy windowNumbers s size
 
 -- ---- the first row whose cause holds
 

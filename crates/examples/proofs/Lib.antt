@@ -1,3 +1,4 @@
+pub mod Quick
 pub mod Computed
 pub mod Starred
 pub mod Louder

@@ -1,5 +1,6 @@
 -- The starred examples of document 01 ("Driven examples"), that of d 10.9 as wish 2 of document 02 has it, sessions with a background on each side
--- (wish 8) and sessions whose limit is looked up (wish 1): for each, what the rules give and what they should give, as numbers.
+-- (wish 8), sessions whose limit is looked up (wish 1) and sessions in which a gear has no window (wish 5): for each, what the rules give and what
+-- they should give, as numbers.
 -- Levels are in tenths of dB(A), accelerations in hundredths of m/s², speeds in tenths of km/h; floats are written by their bit patterns.
 use mathlib.Core.Path.{_≡_}
 use mathlib.Core.List.{List, [], _∷_, _++_, map}
@@ -70,7 +71,7 @@ runsFrom n (l ∷ levels) =
 
 abbrev pub windowGives : Window → List ℕ
 windowGives (window.Runs f) = numbersOf f
-windowGives window.Nothing = []
+windowGives (window.Nothing shortage) = []
 
 abbrev pub gearsWith : List ℕ → List Gear
 gearsWith = map (λ x. record { number = 0; acceleration = record { 0 = x } })
@@ -84,17 +85,18 @@ choiceGives (choice.One rule p) = rule ∷ (p + 1) ∷ []
 choiceGives (choice.Pair rule p) = rule ∷ (p + 1) ∷ (p + 2) ∷ []
 choiceGives choice.Nothing = []
 
-abbrev pub evaluationGives : List ℕ → Answer → List ℕ
-evaluationGives s answer.Accepted = sheetBackgrounds s .left .0 ∷ sheetBackgrounds s .right .0 ∷ number (bufferOf s (replicate 32 0)) 8 2 ∷ []
-evaluationGives s (answer.Refused r) = numberOf r ∷ placeOf r ∷ []
+-- of a sheet, by the answer and the bytes of the result buffer
+abbrev pub evaluationGives : List ℕ → Answer → List ℕ → List ℕ
+evaluationGives s answer.Accepted b = sheetBackgrounds s .left .0 ∷ sheetBackgrounds s .right .0 ∷ number b 8 2 ∷ []
+evaluationGives s (answer.Refused r) b = numberOf r ∷ placeOf r ∷ []
 
 abbrev pub limitGives : Limit → List ℕ
 limitGives (limits.Found n) = n ∷ []
 limitGives (limits.Refused r) = []
 
-abbrev pub limitAndPassGives : List ℕ → Answer → List ℕ
-limitAndPassGives s answer.Accepted = limitGives (sheetLimit s) ++ (byte (bufferOf s (replicate 32 0)) 5 ∷ [])
-limitAndPassGives s (answer.Refused r) = numberOf r ∷ placeOf r ∷ []
+abbrev pub limitAndPassGives : List ℕ → Answer → List ℕ → List ℕ
+limitAndPassGives s answer.Accepted b = limitGives (sheetLimit s) ++ (byte b 5 ∷ [])
+limitAndPassGives s (answer.Refused r) b = numberOf r ∷ placeOf r ∷ []
 
 abbrev pub gives : Example → List ℕ
 gives (tenths pattern n) = tenthsOf (ofBits binary32 pattern) ∷ []
@@ -105,8 +107,8 @@ gives (accelerated path start end n) = accelerationOf start end path ∷ []
 gives (chosen R u accelerations numbers) = choiceGives (choiceOf (referred 0 u R) (gearsWith accelerations))
 gives (powered q u a w c kp) = lUrbanOf (referred q u 0) a w c .kp ∷ []
 gives (printed s line) = lineOfSheet s
-gives (evaluated s numbers) = evaluationGives s (answerOf s 32)
-gives (limitAndPass s numbers) = limitAndPassGives s (answerOf s 32)
+gives (evaluated s numbers) = evaluationGives s (answerOf s 32) (bufferOf s (replicate 32 0))
+gives (limitAndPass s numbers) = limitAndPassGives s (answerOf s 32) (bufferOf s (replicate 32 0))
 
 abbrev pub shouldGive : Example → List ℕ
 shouldGive (tenths pattern n) = n ∷ []
@@ -152,22 +154,30 @@ vehicle right =
 abbrev pub closing : ℕ → ℕ → ℕ → List ℕ
 closing runs left right = (9 ∷ 0 ∷ []) ++ bytesOf 2 runs ++ bytesOf 2 left ++ bytesOf 2 right ++ replicate 24 0
 
--- given: the right background before
-abbrev pub workedWith : ℕ → List ℕ
-workedWith right =
-    vehicle right
-    -- acceleration, gear 2: 74.0 on both sides
-    ++ four (run 2 2 430 570 0x4294_0000 0x4294_0000)
-    -- gear 3: 72.5 twice and 72.25 twice on the left, 71.5 on the right
-    ++ run 2 3 442 545 0x4291_0000 0x428f_0000 ++ run 2 3 442 545 0x4291_0000 0x428f_0000
+-- acceleration, gear 2: 74.0 on both sides
+abbrev pub worked2 : List ℕ
+worked2 = four (run 2 2 430 570 0x4294_0000 0x4294_0000)
+
+-- gear 3: 72.5 twice and 72.25 twice on the left, 71.5 on the right
+abbrev pub worked3 : List ℕ
+worked3 =
+    run 2 3 442 545 0x4291_0000 0x428f_0000 ++ run 2 3 442 545 0x4291_0000 0x428f_0000
     ++ run 2 3 442 545 0x4290_8000 0x428f_0000 ++ run 2 3 442 545 0x4290_8000 0x428f_0000
-    -- gear 4: 70.125 and 70.0
-    ++ four (run 2 4 470 539 0x428c_4000 0x428c_0000)
-    -- constant speed, gear 3: 66.0 and 65.5; gear 4: 65.0 and 65.1875
-    ++ four (run 3 3 500 500 0x4284_0000 0x4283_0000)
-    ++ four (run 3 4 500 500 0x4282_0000 0x4282_6000)
-    -- 20 runs, left background 40.0
-    ++ closing 20 400 0
+
+-- gear 4: 70.125 and 70.0
+abbrev pub worked4 : List ℕ
+worked4 = four (run 2 4 470 539 0x428c_4000 0x428c_0000)
+
+-- constant speed, gear 3: 66.0 and 65.5; gear 4: 65.0 and 65.1875
+abbrev pub constant3 : List ℕ
+constant3 = run 3 3 500 500 0x4284_0000 0x4283_0000
+
+abbrev pub constant4 : List ℕ
+constant4 = run 3 4 500 500 0x4282_0000 0x4282_6000
+
+-- given: the right background before; left background 40.0
+abbrev pub workedWith : ℕ → List ℕ
+workedWith right = vehicle right ++ worked2 ++ worked3 ++ worked4 ++ four constant3 ++ four constant4 ++ closing 20 400 0
 
 abbrev pub workedSheet : List ℕ
 workedSheet = workedWith 0
@@ -254,6 +264,10 @@ withPower s power mass = sets s 4 (bytesOf 2 power ++ bytesOf 2 mass)
 abbrev pub oneGear : List ℕ
 oneGear = sidedSheet 0 400 0
 
+-- A sheet without runs. It is refused with 7 at 0, unless a row before row 7 refuses it.
+abbrev pub noRuns : List ℕ
+noRuns = vehicle 0 ++ closing 0 400 0
+
 -- the worked line with 0 for pass
 abbrev pub failedLine : List ℕ
 failedLine = sets workedLine 42 (48 ∷ [])
@@ -274,21 +288,68 @@ limited =
     ∷ limitAndPass (withPower (limitZero oneGear 2 1) 1601 800) (74 ∷ 1 ∷ [])
     -- N1, whatever bytes 16 and 17 hold, also below PMR 5.0; with a written limit it has one
     ∷ limitAndPass (asN1 (limitZero workedSheet 9 7)) (11 ∷ 0 ∷ [])
-    ∷ limitAndPass (asN1 (limitZero workedSheet 1 0)) (11 ∷ 0 ∷ [])
-    ∷ limitAndPass (withPower (asN1 (limitZero workedSheet 1 0)) 74 1500) (11 ∷ 0 ∷ [])
-    ∷ limitAndPass (asN1 workedSheet) (72 ∷ 1 ∷ [])
+    ∷ limitAndPass (asN1 (limitZero noRuns 1 0)) (11 ∷ 0 ∷ [])
+    ∷ limitAndPass (withPower (asN1 (limitZero noRuns 1 0)) 74 1500) (11 ∷ 0 ∷ [])
+    ∷ limitAndPass (asN1 oneGear) (72 ∷ 1 ∷ [])
     -- phase 0, phase 4, 2 in byte 17, and phase 0 also below PMR 5.0; then PMR 4.9 itself
-    ∷ limitAndPass (limitZero workedSheet 0 0) (12 ∷ 0 ∷ [])
-    ∷ limitAndPass (limitZero workedSheet 4 0) (12 ∷ 0 ∷ [])
-    ∷ limitAndPass (limitZero workedSheet 1 2) (12 ∷ 0 ∷ [])
-    ∷ limitAndPass (withPower (limitZero workedSheet 0 0) 74 1500) (12 ∷ 0 ∷ [])
-    ∷ limitAndPass (withPower (limitZero workedSheet 1 0) 74 1500) (6 ∷ 0 ∷ [])
+    ∷ limitAndPass (limitZero noRuns 0 0) (12 ∷ 0 ∷ [])
+    ∷ limitAndPass (limitZero noRuns 4 0) (12 ∷ 0 ∷ [])
+    ∷ limitAndPass (limitZero noRuns 1 2) (12 ∷ 0 ∷ [])
+    ∷ limitAndPass (withPower (limitZero noRuns 0 0) 74 1500) (12 ∷ 0 ∷ [])
+    ∷ limitAndPass (withPower (limitZero noRuns 1 0) 74 1500) (6 ∷ 0 ∷ [])
     -- a run of gear 0, record 3: the layout is asked first
-    ∷ limitAndPass (sets (asN1 (limitZero workedSheet 9 7)) 97 (0 ∷ [])) (5 ∷ 3 ∷ [])
+    ∷ limitAndPass (sets (asN1 (limitZero oneGear 9 7)) 97 (0 ∷ [])) (5 ∷ 3 ∷ [])
     -- a written limit with byte 16 or 17 set; limits 49, 101 and 256
-    ∷ limitAndPass (sets workedSheet 16 (1 ∷ [])) (5 ∷ 0 ∷ [])
-    ∷ limitAndPass (sets workedSheet 17 (1 ∷ [])) (5 ∷ 0 ∷ [])
-    ∷ limitAndPass (sets workedSheet 14 (49 ∷ 0 ∷ [])) (5 ∷ 0 ∷ [])
-    ∷ limitAndPass (sets workedSheet 14 (101 ∷ 0 ∷ [])) (5 ∷ 0 ∷ [])
-    ∷ limitAndPass (sets workedSheet 14 (0 ∷ 1 ∷ 1 ∷ 0 ∷ [])) (5 ∷ 0 ∷ [])
+    ∷ limitAndPass (sets noRuns 16 (1 ∷ [])) (5 ∷ 0 ∷ [])
+    ∷ limitAndPass (sets noRuns 17 (1 ∷ [])) (5 ∷ 0 ∷ [])
+    ∷ limitAndPass (sets noRuns 14 (49 ∷ 0 ∷ [])) (5 ∷ 0 ∷ [])
+    ∷ limitAndPass (sets noRuns 14 (101 ∷ 0 ∷ [])) (5 ∷ 0 ∷ [])
+    ∷ limitAndPass (sets noRuns 14 (0 ∷ 1 ∷ 1 ∷ 0 ∷ [])) (5 ∷ 0 ∷ [])
+    ∷ []
+
+-- ---- a gear without a window
+
+-- a sheet of these runs, `count` of them, with backgrounds of 40.0
+abbrev pub sheetWith : ℕ → List ℕ → List ℕ
+sheetWith count runs = vehicle 0 ++ runs ++ closing count 400 0
+
+-- the worked sheet's acceleration runs with these at constant speed
+abbrev pub atConstantSpeed : ℕ → List ℕ → List ℕ
+atConstantSpeed count runs = sheetWith (12 + count) (worked2 ++ worked3 ++ worked4 ++ runs)
+
+abbrev pub three : List ℕ → List ℕ
+three r = r ++ r ++ r
+
+-- a run with 66.0 and one with this float, on the left, in turn, twice, both with 65.5 on the right; given: kind, gear and speeds
+abbrev pub inTurn : ℕ → ℕ → ℕ → ℕ → ℕ → List ℕ
+inTurn kind gear start end left =
+    let quiet = run kind gear start end 0x4284_0000 0x4283_0000 in
+    let loud = run kind gear start end left 0x4283_0000 in
+    quiet ++ loud ++ quiet ++ loud
+
+-- runs of which the first is struck
+abbrev pub struck : List ℕ → List ℕ
+struck runs = sets runs 2 (1 ∷ [])
+
+unfoldable pub shortages : List Example
+shortages =
+    -- 66.0, 68.1, 66.0, 68.1 at constant speed in gear 3: four, and too wide, whether gear 4 has a window or too few runs
+    evaluated (atConstantSpeed 8 (inTurn 3 3 500 500 0x4288_3333 ++ four constant4)) (15 ∷ 3 ∷ [])
+    ∷ evaluated (atConstantSpeed 7 (inTurn 3 3 500 500 0x4288_3333 ++ three constant4)) (15 ∷ 3 ∷ [])
+    -- three in gear 3, which decides though gear 4 is too wide; a window in gear 3 leaves gear 4 to decide
+    ∷ evaluated (atConstantSpeed 7 (three constant3 ++ inTurn 3 4 500 500 0x4288_3333)) (10 ∷ 3 ∷ [])
+    ∷ evaluated (atConstantSpeed 8 (four constant3 ++ inTurn 3 4 500 500 0x4288_3333)) (15 ∷ 4 ∷ [])
+    ∷ evaluated (atConstantSpeed 7 (four constant3 ++ three constant4)) (10 ∷ 4 ∷ [])
+    -- 68.0 is within, and leaves gear 4 to decide, too
+    ∷ evaluated (atConstantSpeed 7 (inTurn 3 3 500 500 0x4288_0000 ++ three constant4)) (10 ∷ 4 ∷ [])
+    -- acceleration runs: gear 2 too wide and gear 3 too few; gear 2 too few and gear 3 too wide
+    ∷ evaluated (sheetWith 7 (inTurn 2 2 430 570 0x4288_3333 ++ three (run 2 3 442 545 0x4284_0000 0x4283_0000))) (14 ∷ 2 ∷ [])
+    ∷ evaluated (sheetWith 7 (three (run 2 2 430 570 0x4284_0000 0x4283_0000) ++ inTurn 2 3 442 545 0x4288_3333)) (7 ∷ 2 ∷ [])
+    -- one of four is struck, and three are valid; one of five is struck, and four are valid
+    ∷ evaluated (sheetWith 4 (struck (inTurn 2 2 430 570 0x4288_3333))) (7 ∷ 2 ∷ [])
+    ∷ evaluated (sheetWith 5 (struck (run 2 2 430 570 0x4284_0000 0x4283_0000) ++ inTurn 2 2 430 570 0x4288_3333)) (14 ∷ 2 ∷ [])
+    -- the worked sheet with six runs of gear 5, all struck: none is valid
+    ∷ evaluated (atConstantSpeed 14 (four constant3 ++ four constant4 ++ three (struck (run 2 5 490 520 0x4284_0000 0x4283_0000)) ++ three (struck (run 2 5 490 520 0x4284_0000 0x4283_0000)))) (7 ∷ 5 ∷ [])
+    -- no acceleration run
+    ∷ evaluated (sheetWith 8 (four constant3 ++ four constant4)) (7 ∷ 0 ∷ [])
     ∷ []

@@ -2,6 +2,14 @@
 ghost use mathlib.Core.Path.{_≡_};
 ghost use Rattle.refusal.specs.Refusal.{numberOf, placeOf, answerNumber, answerPlace};
 
+// Why the runs of a gear and a run kind have no window.
+pub enum Shortage {
+    // fewer than four valid runs
+    TooFew,
+    // four or more, and no four neighbours within 2.0 dB on each side
+    TooWide,
+}
+
 // The causes of a refusal, in the order in which they are checked.
 pub enum Refusal {
     // 1: the result buffer has less than 32 bytes
@@ -22,14 +30,14 @@ pub enum Refusal {
     PmrOutOfRange,
     // 7: no acceleration run
     NoRun,
-    // 7: the lowest gear with an acceleration run and no window
-    NoWindow(u8),
+    // 7 or 14: the lowest gear with an acceleration run and no window, and its shortage
+    NoWindow(u8, Shortage),
     // 8: the lower gear of the first neighbours whose accelerations do not fall
     NotFalling(u8),
     // 9: no gear remains, or no rule applies
     NoRule,
-    // 10: the lowest chosen gear without a constant-speed window
-    NoConstantSpeed(u8),
+    // 10 or 15: the lowest chosen gear without a constant-speed window, and its shortage
+    NoConstantSpeed(u8, Shortage),
 }
 
 // What the caller gets of an evaluation.
@@ -52,10 +60,16 @@ pub fn number(r: Refusal) -> u8
         Refusal::NoLimitEntry => 12,
         Refusal::PmrOutOfRange => 6,
         Refusal::NoRun => 7,
-        Refusal::NoWindow(_) => 7,
+        Refusal::NoWindow(_, shortage) => match shortage {
+            Shortage::TooFew => 7,
+            Shortage::TooWide => 14,
+        },
         Refusal::NotFalling(_) => 8,
         Refusal::NoRule => 9,
-        Refusal::NoConstantSpeed(_) => 10,
+        Refusal::NoConstantSpeed(_, shortage) => match shortage {
+            Shortage::TooFew => 10,
+            Shortage::TooWide => 15,
+        },
     }
 }
 
@@ -73,10 +87,10 @@ pub fn place(r: Refusal) -> usize
         Refusal::NoLimitEntry => 0,
         Refusal::PmrOutOfRange => 0,
         Refusal::NoRun => 0,
-        Refusal::NoWindow(g) => g as usize,
+        Refusal::NoWindow(g, _) => g as usize,
         Refusal::NotFalling(g) => g as usize,
         Refusal::NoRule => 0,
-        Refusal::NoConstantSpeed(g) => g as usize,
+        Refusal::NoConstantSpeed(g, _) => g as usize,
     }
 }
 

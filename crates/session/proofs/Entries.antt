@@ -25,7 +25,7 @@ pub record Remaining (t : Session) (g : Gear) (f : Four) : Type 0 where
 module _ (t : Session) where
   from-window : (n : ℕ) (w : Window) (g : Gear) (f : Four) → windowIn t 2 n ≡ w → byWindow (t .track) n w ≡ Remains g f → Remaining t g f
   unfolding byWindow
-  from-window n window.Nothing g f p e = absurd (let z : _≡_ {A = ℕ} 0 1 = cc in omega arith)
+  from-window n (window.Nothing x) g f p e = absurd (let z : _≡_ {A = ℕ} 0 1 = cc in omega arith)
   from-window n (window.Runs x) g f p e =
       by-test (λ (y : State). y ≡ Remains g f → Remaining t g f) (slowEnough (t .track .rated) x) _ _
       (λ b e.
@@ -54,7 +54,7 @@ module _ (t : Session) where
       by (Remains g f) e zero l entries = from-state (p + 1) g f e
       by (Remains g f) e (suc j) l entries = entries j (le-of-suc-le-suc l)
       by Dropped e j l entries = entries j l
-      by NoWindow e j l entries = entries j l
+      by (NoWindow x) e j l entries = entries j l
       by NoRun e j l entries = entries j l
 
   -- the gear and the window at a place belong together
@@ -70,7 +70,7 @@ module _ (t : Session) where
 module _ (t : Session) where
   number-by-window : (n : ℕ) (w : Window) (g : Gear) (f : Four) → byWindow (t .track) n w ≡ Remains g f → g .number ≡ n
   unfolding byWindow
-  number-by-window n window.Nothing g f e = absurd (let z : _≡_ {A = ℕ} 0 1 = cc in omega arith)
+  number-by-window n (window.Nothing x) g f e = absurd (let z : _≡_ {A = ℕ} 0 1 = cc in omega arith)
   number-by-window n (window.Runs x) g f e =
       by-test (λ (y : State). y ≡ Remains g f → g .number ≡ n) (slowEnough (t .track .rated) x) _ _
       (λ b e.
@@ -100,7 +100,7 @@ module _ (t : Session) where
       by (Remains g f) e zero l entries = omega (arith, number-is (p + 1) g f e)
       by (Remains g f) e (suc j) l entries = entries j (le-of-suc-le-suc l)
       by Dropped e j l entries = entries j l
-      by NoWindow e j l entries = entries j l
+      by (NoWindow x) e j l entries = entries j l
       by NoRun e j l entries = entries j l
 
   entries-rise : (none : Entry) (count p k : ℕ) → k + 1 < length (remainingFrom t p count) → number-at none p count k < number-at none p count (k + 1)
@@ -112,7 +112,7 @@ module _ (t : Session) where
       by (Remains g f) e zero l entries = omega (arith, number-is (p + 1) g f e, above none count (p + 1) 0 (le-of-suc-le-suc l))
       by (Remains g f) e (suc j) l entries = rw (add-one (suc j)) (rw (add-one j) at (entries j (omega (arith, l))))
       by Dropped e j l entries = entries j l
-      by NoWindow e j l entries = entries j l
+      by (NoWindow x) e j l entries = entries j l
       by NoRun e j l entries = entries j l
 
   -- the gear at the next place has a higher number

@@ -2,20 +2,31 @@
 use mathlib.Core.Path.{_≡_, refl, sym, ap, _∙_}
 use mathlib.Core.List.{List, [], _∷_, _++_, map, map-append, append-nil}
 use Prim.Native.Nat.{ℕ, zero, suc, _+_, _-_, _≤_, _<_}
-use native.Mathlib.Nat.{zero-add}
+use native.Mathlib.Nat.{zero-add, le-antisymm}
 use native.Mathlib.Numerals.{add-one}
 use native.Mathlib.Omega.{arith}
 use lib.ListN.{length, take, set, replicate, length-map, length-append}
 use lib.Seq.{set-at, take-at, append-snoc}
+use lib.Dec.{ltb}
+use borrow.Author.Tests.{lt-ltb, le-ltb, ltb-false}
 use Rattle.units.proofs.Lowest.{found}
+use Rattle.units.proofs.Tests.{by-test}
+use Rattle.refusal.specs.declared.Shortage.{Shortage}
+use Rattle.sheet.specs.Sheet.{hasAcceleration}
 use Rattle.window.specs.declared.Four.{Four}
+use Rattle.window.specs.declared.Window.{Window}
+use Rattle.window.specs.declared.Window.the-variants as window
 use Rattle.window.specs.Windows.{emptyFour}
+use Rattle.window.proofs.Searches.{none-is}
+use Rattle.valid_runs.specs.ValidRuns.{windowOf}
 use Rattle.gears.specs.declared.Gear.{Gear}
 use Rattle.gears.specs.Rules.{emptyGear}
 use Rattle.session.specs.declared.State.{State}
 use Rattle.session.specs.declared.State.the-variants.{Remains, Dropped, NoWindow, NoRun}
+use Rattle.session.specs.declared.WithoutWindow.{WithoutWindow}
+use Rattle.session.specs.declared.WithoutWindow.the-variants as without
 use Rattle.session.specs.declared.Table.{Table}
-use Rattle.session.specs.Session.{Session, hasNoWindow, lowestNoWindow, stateOf, Entry, withRemaining, remainingFrom, remaining, gearsOf, windowsOf, stored, entriesOf, tableOf, gearsIn, windowsIn}
+use Rattle.session.specs.Session.{Session, windowIn, shortageIn, slowEnough, byWindow, stateOf, hasNoWindow, lowestNoWindow, withoutWindow, Entry, withRemaining, remainingFrom, remaining, gearsOf, windowsOf, stored, entriesOf, tableOf, gearsIn, windowsIn}
 
 -- ---- one place more
 
@@ -23,7 +34,7 @@ module _ (t : Session) where
   kept-in-front : (x : State) (a b : List Entry) → withRemaining x (a ++ b) ≡ withRemaining x a ++ b
   kept-in-front (Remains g f) a b = refl
   kept-in-front Dropped a b = refl
-  kept-in-front NoWindow a b = refl
+  kept-in-front (NoWindow x) a b = refl
   kept-in-front NoRun a b = refl
 
   -- the last of the places adds what becomes of its gear
@@ -44,7 +55,7 @@ module _ (t : Session) where
       by : (x : State) (entries : List Entry) → length entries ≤ count → length (withRemaining x entries) ≤ suc count
       by (Remains g f) entries h = omega arith
       by Dropped entries h = omega arith
-      by NoWindow entries h = omega arith
+      by (NoWindow x) entries h = omega arith
       by NoRun entries h = omega arith
 
 -- ---- a part of each entry, stored in an array
@@ -99,23 +110,63 @@ module _ (t : Session) {A : Type 0} (filler : A) (part : Entry → A) where
 
 -- ---- row 7
 
-pub no-window-most : (t : Session) → lowestNoWindow t ≤ 16
+no-window-most : (t : Session) → lowestNoWindow t ≤ 16
 unfolding lowestNoWindow
 no-window-most t = found (λ p. hasNoWindow (stateOf t (p + 1))) 16 0 .most
 
+-- a window that is missing, of either run kind, has the shortage of its valid runs
+pub missing-is : (t : Session) (kind gear : ℕ) (x : Shortage) → windowIn t kind gear ≡ window.Nothing x → x ≡ shortageIn t kind gear
+unfolding windowOf
+missing-is t kind gear x e = none-is _ x e .0
+
+-- so has a gear without an acceleration window
+shortage-is : (t : Session) (gear : ℕ) (x : Shortage) → stateOf t gear ≡ NoWindow x → x ≡ shortageIn t 2 gear
+unfolding stateOf byWindow
+shortage-is t gear x =
+    by-test (λ (y : State). y ≡ NoWindow x → x ≡ shortageIn t 2 gear) (hasAcceleration (t .sheet) gear) _ _
+    (λ h e. by-window (windowIn t 2 gear) refl e)
+    (λ h e. absurd (let z : _≡_ {A = ℕ} 0 1 = cc in omega arith))
+  where
+    by-window : (w : Window) → windowIn t 2 gear ≡ w → byWindow (t .track) gear w ≡ NoWindow x → x ≡ shortageIn t 2 gear
+    by-window (window.Runs f) p e =
+        by-test (λ (y : State). y ≡ NoWindow x → x ≡ shortageIn t 2 gear) (slowEnough (t .track .rated) f) _ _
+        (λ b d. absurd (let z : _≡_ {A = ℕ} 0 1 = cc in omega arith))
+        (λ b d. absurd (let z : _≡_ {A = ℕ} 0 1 = cc in omega arith))
+        e
+    by-window (window.Nothing y) p e =
+        let same : y ≡ x = cc in
+        sym same ∙ missing-is t 2 gear y p
+
+-- the lowest gear without a window is at place p, or there is none
+pub without-at : (t : Session) (p : ℕ) (x : Shortage) → lowestNoWindow t ≡ p → p < 16 → stateOf t (p + 1) ≡ NoWindow x → without.Gear (p + 1) x ≡ withoutWindow t
+unfolding withoutWindow
+without-at t p x e h s = rw (e, lt-ltb p 16 h) (ap (without.Gear (p + 1)) (shortage-is t (p + 1) x s))
+
+pub without-none : (t : Session) (p : ℕ) → lowestNoWindow t ≡ p → 16 ≤ p → without.NoGear ≡ withoutWindow t
+unfolding withoutWindow
+without-none t p e h = rw (e, le-ltb p 16 h)
+
 -- ---- the table
 
-pub table-is : (t : Session) (gears : List Gear) (windows : List Four) (count p : ℕ) → lowestNoWindow t ≡ p → Tabling t emptyGear (λ e. e .gear) gears count p → Tabling t emptyFour (λ e. e .window) windows count p → record { gears = gears; windows = windows; count = count; «no_window» = p } ≡ tableOf t
+pub table-is : (t : Session) (gears : List Gear) (windows : List Four) (count p : ℕ) (w : WithoutWindow) → lowestNoWindow t ≡ p → w ≡ withoutWindow t → Tabling t emptyGear (λ e. e .gear) gears count p → Tabling t emptyFour (λ e. e .window) windows count p → record { gears = gears; windows = windows; count = count; «without_window» = w } ≡ tableOf t
 unfolding Tabling tableOf entriesOf
-table-is t gears windows count p e g w = rw (e, g .0, w .0, g .1)
+table-is t gears windows count p w e n g f = rw (e, n, g .0, f .0, g .1)
 
 -- what a table says of its session
 pub record Tabled (t : Session) (r : Table) : Type 0 where
-  pub no-window : r .«no_window» ≡ lowestNoWindow t
+  pub without-window : r .«without_window» ≡ withoutWindow t
   pub few : r .count ≤ 16
   pub counted : length (gearsIn r) ≡ r .count
-  pub gears : r .«no_window» ≡ 16 → gearsIn r ≡ gearsOf t
-  pub windows : r .«no_window» ≡ 16 → windowsIn r ≡ windowsOf t
+  pub gears : withoutWindow t ≡ without.NoGear → gearsIn r ≡ gearsOf t
+  pub windows : withoutWindow t ≡ without.NoGear → windowsIn r ≡ windowsOf t
+
+-- where it names no gear, the search for the lowest went through all 16 places
+all-places : (t : Session) → withoutWindow t ≡ without.NoGear → lowestNoWindow t ≡ 16
+unfolding withoutWindow
+all-places t =
+    by-test (λ (w : WithoutWindow). w ≡ without.NoGear → lowestNoWindow t ≡ 16) (ltb (lowestNoWindow t) 16) _ _
+    (λ l e. absurd (let z : _≡_ {A = ℕ} 0 1 = cc in omega arith))
+    (λ l e. le-antisymm (no-window-most t) (ltb-false (lowestNoWindow t) 16 l))
 
 front-of : {A : Type 0} (filler : A) (part : Entry → A) (entries : List Entry) → take (length entries) (stored filler (map part entries)) ≡ map part entries
 front-of filler part entries = ap (λ (n : ℕ). take n (stored filler (map part entries))) (sym (length-map entries part)) ∙ taken filler (map part entries)
@@ -124,9 +175,9 @@ pub tabled : (t : Session) → Tabled t (tableOf t)
 unfolding tableOf entriesOf gearsOf windowsOf remaining
 tabled t =
     record {
-      no-window = refl;
+      without-window = refl;
       few = omega (arith, few-remain t 0 (lowestNoWindow t), no-window-most t);
       counted = ap length (front-of emptyGear (λ e. e .gear) (entriesOf t)) ∙ length-map (entriesOf t) (λ e. e .gear);
-      gears = λ e. front-of emptyGear (λ e. e .gear) (entriesOf t) ∙ rw e;
-      windows = λ e. front-of emptyFour (λ e. e .window) (entriesOf t) ∙ rw e;
+      gears = λ h. front-of emptyGear (λ e. e .gear) (entriesOf t) ∙ rw (all-places t h);
+      windows = λ h. front-of emptyFour (λ e. e .window) (entriesOf t) ∙ rw (all-places t h);
     }

@@ -1,24 +1,27 @@
--- The gears of a session (document 01, row 7 of the refusals, and "Gears"): which have no window, which are dropped, and which remain, each with
--- its acceleration and its acceleration window.
+-- The gears of a session (document 01, row 7 of the refusals, and "Gears"; document 02, wish 5): which have no window and why, which are dropped, and
+-- which remain, each with its acceleration and its acceleration window.
 use mathlib.Core.Bool.{Bool, true, false, cond, _&&_}
 use mathlib.Core.List.{List, [], _∷_, _++_, map}
 use Prim.Native.Nat.{ℕ, zero, suc, _+_, _-_}
-use lib.Dec.{leb}
+use lib.Dec.{leb, ltb}
 use lib.ListN.{length, take, replicate}
 use Rattle.units.specs.Tests.{lowest}
+use Rattle.refusal.specs.declared.Shortage.{Shortage}
 use Rattle.sheet.specs.Sheet.{hasAcceleration}
 use Rattle.window.specs.declared.Four.{Four}
 use Rattle.window.specs.declared.Window.{Window}
 use Rattle.window.specs.declared.Window.the-variants as window
-use Rattle.window.specs.Windows.{emptyFour}
+use Rattle.window.specs.Windows.{shortageOf, emptyFour}
 use Rattle.valid_runs.specs.declared.Condition.{Condition}
-use Rattle.valid_runs.specs.ValidRuns.{windowOf}
+use Rattle.valid_runs.specs.ValidRuns.{restOf, windowOf}
 use Rattle.gears.specs.declared.Gear.{Gear}
 use Rattle.gears.specs.Acceleration.{accelerationOf, meanOf}
 use Rattle.gears.specs.Rules.{emptyGear}
 use Rattle.session.specs.declared.Track.{Track}
 use Rattle.session.specs.declared.State.{State}
 use Rattle.session.specs.declared.State.the-variants.{Remains, Dropped, NoWindow, NoRun}
+use Rattle.session.specs.declared.WithoutWindow.{WithoutWindow}
+use Rattle.session.specs.declared.WithoutWindow.the-variants as without
 use Rattle.session.specs.declared.Table.{Table}
 
 -- what the evaluation goes by: the bytes of the sheet, and the track, with backgrounds, S and path
@@ -37,6 +40,10 @@ conditionOf track kind gear = record { backgrounds = track .backgrounds; kind = 
 abbrev pub windowIn : Session → ℕ → ℕ → Window
 windowIn t kind gear = windowOf (t .sheet) (conditionOf (t .track) kind gear)
 
+-- why they have no window, if they have none: by the number of their valid runs
+abbrev pub shortageIn : Session → ℕ → ℕ → Shortage
+shortageIn t kind gear = shortageOf (length (restOf (t .sheet) (conditionOf (t .track) kind gear)))
+
 -- ---- what becomes of a gear
 
 -- no run of the window has an engine speed above S
@@ -51,7 +58,7 @@ gearAcceleration path f =
 
 -- a gear with an acceleration run, by its acceleration window: dropped if a run of it has an engine speed above S
 unfoldable pub byWindow : Track → ℕ → Window → State
-byWindow track gear window.Nothing = NoWindow
+byWindow track gear (window.Nothing shortage) = NoWindow shortage
 byWindow track gear (window.Runs f) =
     cond (slowEnough (track .rated) f) (Remains (record { number = gear; acceleration = record { 0 = gearAcceleration (track .path) f } }) f) Dropped
 
@@ -65,12 +72,18 @@ stateOf t gear = cond (hasAcceleration (t .sheet) gear) (byWindow (t .track) gea
 abbrev pub hasNoWindow : State → Bool
 hasNoWindow (Remains g f) = false
 hasNoWindow Dropped = false
-hasNoWindow NoWindow = true
+hasNoWindow (NoWindow shortage) = true
 hasNoWindow NoRun = false
 
 -- the lowest gear with an acceleration run and no window, less one: p for gear p + 1. (16, if there is none.)
 unfoldable pub lowestNoWindow : Session → ℕ
 lowestNoWindow t = lowest (λ p. hasNoWindow (stateOf t (p + 1))) 16 0
+
+-- that gear with its own shortage, by which row 7 is numbered 7 or 14
+unfoldable pub withoutWindow : Session → WithoutWindow
+withoutWindow t =
+    let gear = lowestNoWindow t + 1 in
+    cond (ltb (lowestNoWindow t) 16) (without.Gear gear (shortageIn t 2 gear)) without.NoGear
 
 -- ---- the gears that remain
 
@@ -82,7 +95,7 @@ pub record Entry : Type 0 where
 abbrev pub withRemaining : State → List Entry → List Entry
 withRemaining (Remains g f) entries = record { gear = g; window = f } ∷ entries
 withRemaining Dropped entries = entries
-withRemaining NoWindow entries = entries
+withRemaining (NoWindow shortage) entries = entries
 withRemaining NoRun entries = entries
 
 -- those among `count` places from p on, in rising number
@@ -109,14 +122,14 @@ stored filler xs = xs ++ replicate (16 - length xs) filler
 unfoldable pub entriesOf : Session → List Entry
 entriesOf t = remainingFrom t 0 (lowestNoWindow t)
 
--- the table: these gears and their acceleration windows, how many they are, and the lowest gear that has no window, less one
+-- the table: these gears and their acceleration windows, how many they are, and the lowest gear that has no window
 unfoldable pub tableOf : Session → Table
 tableOf t =
     record {
       gears = stored emptyGear (map (λ (e : Entry). e .gear) (entriesOf t));
       windows = stored emptyFour (map (λ (e : Entry). e .window) (entriesOf t));
       count = length (entriesOf t);
-      «no_window» = lowestNoWindow t;
+      «without_window» = withoutWindow t;
     }
 
 -- the gears and the windows of a table: the first `count` of each array

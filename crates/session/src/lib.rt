@@ -2,6 +2,7 @@
 use gears::Gear;
 use record::Backgrounds;
 use record::Record;
+use refusal::Shortage;
 use units::Hundredths;
 use valid_runs::Condition;
 use window::Four;
@@ -43,8 +44,8 @@ pub enum State {
     Remains(Gear, Four),
     // an engine speed above S
     Dropped,
-    // acceleration runs, and no window among them
-    NoWindow,
+    // acceleration runs, and no window among them, and why
+    NoWindow(Shortage),
     // no acceleration run
     NoRun,
 }
@@ -88,7 +89,7 @@ fn by_window(sheet: &[u8], track: Track, gear: u8) -> State
                 State::Dropped
             }
         }
-        Window::Nothing => State::NoWindow,
+        Window::Nothing(shortage) => State::NoWindow(shortage),
     }
 }
 
@@ -106,13 +107,19 @@ fn state_of(sheet: &[u8], track: Track, gear: u8, here: bool) -> State
     }
 }
 
+// The lowest gear with acceleration runs and no window, and its shortage, if there is one.
+pub enum WithoutWindow {
+    Gear(u8, Shortage),
+    NoGear,
+}
+
 // The gears that remain, in rising number, each with its acceleration window: the first `count` of both arrays. If a gear has acceleration runs
-// and no window, `no_window` is the place of the lowest such gear, gear p + 1 at place p, and the arrays hold the gears below it; else it is 16.
+// and no window, the arrays hold the gears below the lowest such gear.
 pub struct Table {
     pub gears: [Gear; 16],
     pub windows: [Four; 16],
     pub count: usize,
-    pub no_window: usize,
+    pub without_window: WithoutWindow,
 }
 
 // The table of a session.
@@ -128,19 +135,20 @@ pub fn table_of(sheet: &[u8], track: Track) -> Table
     let mut p: usize = 0;
     while p < 16 {
         let here = seen[p + 1];
-        let state = state_of(sheet, track, (p + 1) as u8, here);
+        let gear = (p + 1) as u8;
+        let state = state_of(sheet, track, gear, here);
         match state {
             State::Remains(g, f) => {
                 gears[count] = g;
                 windows[count] = f;
                 count += 1;
             }
-            State::NoWindow => {
+            State::NoWindow(shortage) => {
                 return Table {
                     gears,
                     windows,
                     count,
-                    no_window: p,
+                    without_window: WithoutWindow::Gear(gear, shortage),
                 };
             }
             State::Dropped => {}
@@ -152,6 +160,6 @@ pub fn table_of(sheet: &[u8], track: Track) -> Table
         gears,
         windows,
         count,
-        no_window: p,
+        without_window: WithoutWindow::NoGear,
     }
 }

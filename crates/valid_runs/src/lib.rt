@@ -3,6 +3,7 @@ use level::Side;
 use record::Backgrounds;
 use record::Record;
 use record::Run;
+use refusal::Shortage;
 use units::Tenths;
 use window::ValidRun;
 use window::Window;
@@ -93,7 +94,8 @@ fn carry(runs: [ValidRun; 16]) -> [ValidRun; 16]
     kept
 }
 
-// The first window of a condition in a sheet. Runs that count are gathered 16 at a time.
+// The first window of a condition in a sheet, or why there is none. Runs that count are gathered 16 at a time. Once three were carried, there are
+// more runs than the array holds: they are not too few, however few it holds at the end.
 pub fn window_of(sheet: &[u8], condition: Condition) -> Window
     requires { ⌜ RunsGood (now sheet) ⌝ }
     ensures { λ r. ⌜ r ≡ windowOf (now (sheet .entry)) condition ⌝ }
@@ -101,6 +103,7 @@ pub fn window_of(sheet: &[u8], condition: Condition) -> Window
     let last = sheet.len() / Record::SIZE - 1;
     let mut runs = [window::EMPTY_RUN; 16];
     let mut count: usize = 0;
+    let mut carried = false;
     let mut i = sheet::next_with(sheet, 1, condition.gear, 1, last);
     while i < last {
         let found = candidate(sheet, condition, i as u16);
@@ -114,8 +117,18 @@ pub fn window_of(sheet: &[u8], condition: Condition) -> Window
             }
             runs = carry(runs);
             count = 3;
+            carried = true;
         }
         i = sheet::next_with(sheet, 1, condition.gear, i + 1, last);
     }
-    window::window_among(runs, count)
+    match window::window_among(runs, count) {
+        Window::Runs(f) => Window::Runs(f),
+        Window::Nothing(shortage) => {
+            if carried {
+                Window::Nothing(Shortage::TooWide)
+            } else {
+                Window::Nothing(shortage)
+            }
+        }
+    }
 }

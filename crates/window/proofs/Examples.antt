@@ -6,11 +6,14 @@ use Prim.Native.Nat.{ℕ}
 use lib.Dec.{T, eqb}
 use Rattle.units.specs.Rounding.{rounded}
 use Rattle.units.specs.Tests.{lowest, allOf}
+use Rattle.refusal.specs.declared.Shortage.{Shortage}
+use Rattle.refusal.specs.declared.Shortage.the-variants.{TooFew, TooWide}
+use Rattle.refusal.specs.Refusal.{byShortage}
 use Rattle.window.specs.declared.ValidRun.{ValidRun}
 use Rattle.window.specs.declared.Window.{Window}
 use Rattle.window.specs.declared.Window.the-variants.{Runs, Nothing}
 use Rattle.window.specs.Extremes.{AreExtremes}
-use Rattle.window.specs.Windows.{spanned, fitting, largerSum, conditionLevel, emptyRun, fourAt, firstPlace, firstWindow}
+use Rattle.window.specs.Windows.{spanned, fitting, largerSum, conditionLevel, emptyRun, fourAt, firstPlace, shortageOf, firstWindow}
 use Rattle.window.proofs.HeldExtremes.{extremes, first-extremes, next-extremes}
 
 run : ℕ → ℕ → ℕ → ValidRun
@@ -20,19 +23,20 @@ run n l r = record { left = record { 0 = l }; right = record { 0 = r }; start = 
 data Example : Type 0 where
   -- the first window starts at this run, and the condition's level is this
   starts : List ValidRun → ℕ → ℕ → Example
-  none : List ValidRun → Example
+  -- there is none, for this reason
+  none : List ValidRun → Shortage → Example
 
 isAt : ℕ → ℕ → Window → Bool
 isAt n level (Runs f) = eqb (f .a .number) n && eqb (conditionLevel f) level
-isAt n level Nothing = false
+isAt n level (Nothing x) = false
 
-isNone : Window → Bool
-isNone (Runs f) = false
-isNone Nothing = eqb 0 0
+isNone : Shortage → Window → Bool
+isNone x (Runs f) = false
+isNone x (Nothing y) = eqb (byShortage 0 1 x) (byShortage 0 1 y)
 
 holds : Example → Bool
 holds (starts rest n level) = isAt n level (firstWindow rest)
-holds (none rest) = isNone (firstWindow rest)
+holds (none rest x) = isNone x (firstWindow rest)
 
 examples : List Example
 examples =
@@ -41,18 +45,21 @@ examples =
     -- 70.0 with 72.0 is within
     ∷ starts (run 1 700 700 ∷ run 2 720 720 ∷ run 3 710 710 ∷ run 4 710 710 ∷ []) 1 710
     -- each side by itself: the sums of the sides are alike, the sides are not
-    ∷ none (run 1 700 721 ∷ run 2 721 700 ∷ run 3 710 711 ∷ run 4 711 710 ∷ [])
+    ∷ none (run 1 700 721 ∷ run 2 721 700 ∷ run 3 710 711 ∷ run 4 711 710 ∷ []) TooWide
     -- a valid run outside the span parts its neighbours
-    ∷ none (run 1 700 700 ∷ run 2 700 700 ∷ run 3 740 740 ∷ run 4 700 700 ∷ run 5 700 700 ∷ [])
-    -- three runs are too few
-    ∷ none (run 1 700 700 ∷ run 2 700 700 ∷ run 3 700 700 ∷ [])
-    ∷ none []
+    ∷ none (run 1 700 700 ∷ run 2 700 700 ∷ run 3 740 740 ∷ run 4 700 700 ∷ run 5 700 700 ∷ []) TooWide
+    -- three runs are too few, whether they lie close together or not
+    ∷ none (run 1 700 700 ∷ run 2 700 700 ∷ run 3 700 700 ∷ []) TooFew
+    ∷ none (run 1 660 660 ∷ run 2 681 681 ∷ run 3 660 660 ∷ []) TooFew
+    ∷ none [] TooFew
+    -- four are enough, and too wide by a tenth on one side
+    ∷ none (run 1 660 655 ∷ run 2 681 655 ∷ run 3 660 655 ∷ run 4 681 655 ∷ []) TooWide
     -- the first of two windows; a side's mean of 70.05 goes up
     ∷ starts (run 1 700 690 ∷ run 2 700 690 ∷ run 3 701 690 ∷ run 4 701 690 ∷ run 5 700 690 ∷ []) 1 701
     ∷ []
 
 every-holds : T (allOf (map holds examples))
-unfolding run isAt isNone holds examples spanned fitting emptyRun fourAt firstPlace firstWindow largerSum conditionLevel lowest rounded
+unfolding run isAt isNone holds examples spanned fitting emptyRun fourAt firstPlace firstWindow largerSum conditionLevel lowest rounded shortageOf
 every-holds = tt
 
 -- ---- one side of four runs (document 02, wish 3)

@@ -1,4 +1,5 @@
 pub mod Searches
+pub mod Shortages
 pub mod Parts
 mod HeldExtremes
 mod Examples

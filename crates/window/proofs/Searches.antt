@@ -9,11 +9,12 @@ use lib.Dec.{ltb}
 use borrow.Author.Tests.{lt-ltb, le-ltb, ltb-true, ltb-false}
 use Rattle.units.proofs.Lowest.{Lowest, found, Passed, passed-start, passed-next, passed-stop, passed-end}
 use Rattle.units.proofs.Tests.{by-test}
+use Rattle.refusal.specs.declared.Shortage.{Shortage}
 use Rattle.window.specs.declared.ValidRun.{ValidRun}
 use Rattle.window.specs.declared.Four.{Four}
 use Rattle.window.specs.declared.Window.{Window}
 use Rattle.window.specs.declared.Window.the-variants.{Runs, Nothing}
-use Rattle.window.specs.Windows.{fitting, fourAt, firstPlace, firstWindow}
+use Rattle.window.specs.Windows.{fitting, fourAt, firstPlace, shortageOf, firstWindow}
 
 module _ (rest : List ValidRun) where
   -- nothing fits before place i
@@ -32,7 +33,7 @@ module _ (rest : List ValidRun) where
   unfolding Reached firstWindow firstPlace
   found-here i h e r = simp (passed-stop (λ k. fitting (fourAt rest k)) (length rest - 3) i (omega arith) e r, lt-ltb i (length rest - 3) (omega arith))
 
-  pub found-nowhere : (i : ℕ) → length rest ≤ i + 3 → Reached i → firstWindow rest ≡ Nothing
+  pub found-nowhere : (i : ℕ) → length rest ≤ i + 3 → Reached i → firstWindow rest ≡ Nothing (shortageOf (length rest))
   unfolding Reached firstWindow firstPlace
   found-nowhere i h r = simp (passed-end (λ k. fitting (fourAt rest k)) (length rest - 3) i (omega arith) r, le-ltb i (length rest - 3) (omega arith))
 
@@ -66,9 +67,12 @@ module _ (rest : List ValidRun) where
       })
       (λ t e. absurd (let z : _≡_ {A = ℕ} 0 1 = cc in omega arith))
 
-  pub none-is : firstWindow rest ≡ Nothing → (i : ℕ) → i + 3 < length rest → fitting (fourAt rest i) ≡ false
+  -- nothing, with the shortage of so many runs
+  pub none-is : (x : Shortage) → firstWindow rest ≡ Nothing x → (x ≡ shortageOf (length rest)) × ((i : ℕ) → i + 3 < length rest → fitting (fourAt rest i) ≡ false)
   unfolding firstWindow
-  none-is =
-      by-test (λ (w : Window). w ≡ Nothing → (i : ℕ) → i + 3 < length rest → fitting (fourAt rest i) ≡ false) (ltb (firstPlace rest) (length rest - 3)) _ _
+  none-is x =
+      by-test (λ (w : Window). w ≡ Nothing x → (x ≡ shortageOf (length rest)) × ((i : ℕ) → i + 3 < length rest → fitting (fourAt rest i) ≡ false)) (ltb (firstPlace rest) (length rest - 3)) _ _
       (λ t e. absurd (let z : _≡_ {A = ℕ} 0 1 = cc in omega arith))
-      (λ t e i h. search .before i (omega arith) (omega (arith, ltb-false (firstPlace rest) (length rest - 3) t)))
+      (λ t e.
+      let same : shortageOf (length rest) ≡ x = cc in
+      (sym same, λ i h. search .before i (omega arith) (omega (arith, ltb-false (firstPlace rest) (length rest - 3) t))))

@@ -1,4 +1,4 @@
--- Windows and the level of a condition (document 01, "From levels to windows", steps 4 and 5). Levels are in tenths of dB(A).
+-- Windows and the level of a condition (document 01, "From levels to windows", steps 4 and 5; document 02, wish 5). Levels are in tenths of dB(A).
 use mathlib.Core.Bool.{Bool, cond, _&&_}
 use mathlib.Core.List.{List}
 use Prim.Native.Nat.{ℕ, _+_, _-_, max, min}
@@ -6,6 +6,8 @@ use lib.Dec.{leb, ltb}
 use lib.ListN.{length, getD}
 use Rattle.units.specs.Rounding.{rounded}
 use Rattle.units.specs.Tests.{lowest}
+use Rattle.refusal.specs.declared.Shortage.{Shortage}
+use Rattle.refusal.specs.declared.Shortage.the-variants.{TooFew, TooWide}
 use Rattle.window.specs.declared.ValidRun.{ValidRun}
 use Rattle.window.specs.declared.Four.{Four}
 use Rattle.window.specs.declared.Window.{Window}
@@ -35,8 +37,12 @@ fourAt rest i = record { a = getD rest i emptyRun; b = getD rest (i + 1) emptyRu
 unfoldable pub firstPlace : List ValidRun → ℕ
 firstPlace rest = lowest (λ i. fitting (fourAt rest i)) (length rest - 3) 0
 
+-- why a rest of `count` valid runs has no window, if it has none: fewer than four, or four or more that lie too far apart (wish 5)
+unfoldable pub shortageOf : ℕ → Shortage
+shortageOf count = cond (ltb count 4) TooFew TooWide
+
 unfoldable pub firstWindow : List ValidRun → Window
-firstWindow rest = cond (ltb (firstPlace rest) (length rest - 3)) (Runs (fourAt rest (firstPlace rest))) Nothing
+firstWindow rest = cond (ltb (firstPlace rest) (length rest - 3)) (Runs (fourAt rest (firstPlace rest))) (Nothing (shortageOf (length rest)))
 
 -- ---- step 5: the level of a condition
 

@@ -1,12 +1,13 @@
 // Windows: four neighbouring valid runs that lie close together, the level of a condition, and the search for the first window in a lent slice.
 // Neither a sheet nor an acceleration is known here.
+use refusal::Shortage;
 use units::Tenths;
 ghost use mathlib.Core.Path.{_≡_};
 ghost use mathlib.Core.List.{List, [], _∷_, _++_, map};
 ghost use Prim.Native.Nat.{ℕ, _+_, _≤_, max, min, _-_, _<_};
 ghost use lib.ListN.{length, take};
 ghost use Rattle.window.specs.Extremes.{AreExtremes};
-ghost use Rattle.window.specs.Windows.{spanned, fitting, conditionLevel, fourAt, firstWindow};
+ghost use Rattle.window.specs.Windows.{spanned, fitting, conditionLevel, fourAt, shortageOf, firstWindow};
 
 // A run that counts, with its corrected levels.
 pub struct ValidRun {
@@ -142,9 +143,21 @@ pub fn condition_level(f: Four) -> Tenths
     Tenths(units::round(larger(left, right), 4) as u16)
 }
 
+// The first window, or none, and why.
 pub enum Window {
     Runs(Four),
-    Nothing,
+    Nothing(Shortage),
+}
+
+// Why `count` valid runs have no window, where they have none.
+fn shortage_of(count: usize) -> Shortage
+    ensures { λ r. ⌜ r ≡ shortageOf count ⌝ }
+{
+    if count < 4 {
+        Shortage::TooFew
+    } else {
+        Shortage::TooWide
+    }
 }
 
 // How many places `count` runs have for four neighbours.
@@ -180,7 +193,7 @@ fn first_window(runs: &[ValidRun]) -> Window
         }
         i += 1;
     }
-    Window::Nothing
+    Window::Nothing(shortage_of(runs.len()))
 }
 
 // The first window among the first `count` of `runs`, which are lent to the search. The one entry to it: its parameters are plain values.

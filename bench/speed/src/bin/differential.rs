@@ -14,6 +14,7 @@ use speed::changes::any_sheet;
 use speed::fours::{any_four, Four};
 use speed::lorries::{any_lorry, Lorry};
 use speed::random::Random;
+use speed::sheets::{ACCELERATION, CONSTANT, RECORD};
 use speed::straight;
 use std::cmp::Ordering;
 use std::collections::BTreeMap;
@@ -108,9 +109,31 @@ impl Verdicts {
     }
 }
 
+/// The answers that come up on sheets: 5 rules and 14 refusals, of which 7 has two names, and so have 14 and 15.
+const SHEET_ANSWERS: usize = 22;
+
+/// An answer on a sheet by its rule or its refusal: 7 also by whether it names a gear, 14 and 15 by the count of that gear's runs.
+fn name(sheet: &[u8], given: &Given) -> String {
+    let runs = |kind| if runs_with_levels(sheet, kind, given.place) > 16 { "more than 16" } else { "up to 16" };
+    match (given.number, given.place) {
+        (0, _) => format!("rule {}", given.buffer[0]),
+        (7, 0) => "refusal  7, no acceleration run".into(),
+        (7, _) => "refusal  7, a gear".into(),
+        (14, _) => format!("refusal 14, {} runs", runs(ACCELERATION)),
+        (15, _) => format!("refusal 15, {} runs", runs(CONSTANT)),
+        (number, _) => format!("refusal {number:>2}"),
+    }
+}
+
+/// The runs of a kind and gear that are not struck and have a level on both sides.
+fn runs_with_levels(sheet: &[u8], kind: u8, gear: usize) -> usize {
+    let is_one = |record: &&[u8]| record[..5] == [kind, gear as u8, 0, 1, 1];
+    sheet.chunks_exact(RECORD).filter(is_one).count()
+}
+
 /// Compares so many sheets, and prints how often each answer and each verdict by class came up; whether all agree and each did.
 fn compare_sheets(random: &mut Random, corpus: &[Vec<u8>], count: usize) -> bool {
-    let mut answers: BTreeMap<(u32, u8), usize> = BTreeMap::new();
+    let mut answers = Answers::new();
     let mut verdicts = Verdicts::default();
     for at in 0..count {
         let sheet = any_sheet(random, corpus);
@@ -120,12 +143,10 @@ fn compare_sheets(random: &mut Random, corpus: &[Vec<u8>], count: usize) -> bool
         assert!(sheet == before, "sheet {at} was written");
         match found {
             Ok(given) => {
-                let mut rule = 0;
                 if given.number == 0 {
-                    rule = given.buffer[0];
                     verdicts.count(&sheet, &given.buffer);
                 }
-                *answers.entry((given.number, rule)).or_default() += 1;
+                *answers.entry(name(&sheet, &given)).or_default() += 1;
             }
             Err(words) => {
                 println!("sheet {at}, {} bytes, a buffer of {size}: {words}", sheet.len());
@@ -133,13 +154,9 @@ fn compare_sheets(random: &mut Random, corpus: &[Vec<u8>], count: usize) -> bool
             }
         }
     }
-    for ((number, rule), found) in &answers {
-        let name = if *number == 0 { format!("rule {rule}") } else { format!("refusal {number}") };
-        println!("{name:<12}{found:>9}");
-    }
-    println!("{count} sheets: the proved evaluation and two in Rust gave the same answers and buffers");
-    println!("{} of 17 answers came up", answers.len());
-    verdicts.all_came_up() && answers.len() == 17
+    let agreed = format!("{count} sheets: the proved evaluation and two in Rust gave the same answers and buffers");
+    let all_answers = all_came_up(&answers, SHEET_ANSWERS, &agreed);
+    verdicts.all_came_up() && all_answers
 }
 
 /// What a call on a motorcycle gives: 0 or a refusal's number, its place, the levels, and mean and pass between poisoned ones.

@@ -1,17 +1,15 @@
 -- `decision::decide_whole` meets its contract, row by row. Assumes nothing.
-use mathlib.Core.Path.{_≡_, refl, sym, ap, _∙_}
+use mathlib.Core.Path.{_≡_, refl, sym, _∙_}
 use mathlib.Core.Bool.{true}
-use Prim.Native.Nat.{ℕ, _+_, _≤_}
+use Prim.Native.Nat.{_≤_}
 use native.Mathlib.Omega.{arith}
 use lib.Dec.{ltb}
 use borrow.Author.Needs.{needs}
 use borrow.Author.Tests.{ltb-false, not-true, not-false}
 use Rattle.units.proofs.Tests.{neither}
-use Rattle.refusal.specs.declared.Refusal.the-variants.{NoWindow}
 use Rattle.sheet.specs.Sheet.{anyAcceleration}
 use Rattle.session.specs.Session.{Session, sessionOf}
-use Rattle.session.proofs.Tables.{no-window-most, Tabled, tabled}
-use Rattle.decision.specs.declared.Decision.the-variants.{Refused}
+use Rattle.session.proofs.Tables.{Tabled, tabled}
 use Rattle.decision.proofs.Decisions.{row-6, row-7-none, row-7-gear, rows-8-to-10, same-decision}
 use Rattle.decision.proofs.decide_whole.Statement.{statement}
 use Rattle.decision.proofs.decide_whole.Tie as tie
@@ -49,19 +47,18 @@ returns-2 c =
 table-of-requires : tie.Need-table-of-requires
 table-of-requires c κs = search needs
 
-add-t12 : tie.Need-add-t12
-add-t12 c = search needs
-
-cast-t13 : tie.Need-cast-t13
-cast-t13 c = search needs
+enum-known-without-window : tie.Need-enum-known-without-window
+enum-known-without-window c = search needs
 
 returns-3 : tie.Need-returns-3
 returns-3 c =
     let t = c .before .before .before in
     let e = t .before in
     let s = e .before .before .before .before in
-    let none = tabled-here t .no-window in
-    ap (λ (n : ℕ). Refused (NoWindow (n + 1))) none ∙ sym (row-7-gear (session s) (s .args .pmr) _ (e .before .before .if1 .left) (any e) (omega (arith, none)))
+    sym (row-7-gear (session s) (s .args .pmr) _ (e .before .before .if1 .left) (any e) _ _ (sym (tabled-here t .without-window) ∙ c .before .without-window .given .1))
+
+enum-told : tie.Need-enum-told
+enum-told c = search needs
 
 cast-reference-at : tie.Need-cast-reference-at
 cast-reference-at c = omega (arith, pmr-range (c .before .before .before .before .before))
@@ -79,10 +76,10 @@ returns-4 c =
     let t = c .before .before .before .before in
     let e = t .before in
     let s = e .before .before .before .before in
-    let all : t .table-of .result .«no_window» ≡ 16 = omega (arith, tabled-here t .no-window, no-window-most (session s), c .before .before .if3 .left) in
+    let none = sym (tabled-here t .without-window) ∙ c .before .before .enum-told .given .1 in
     c .decide-table .ensures
-    ∙ same-decision (s .args .limit) (c .before .reference-at .ensures) refl (tabled-here t .gears all) (tabled-here t .windows all)
-    ∙ sym (rows-8-to-10 (session s) (s .args .pmr) _ (e .before .before .if1 .left) (any e) (omega (arith, tabled-here t .no-window, all)))
+    ∙ same-decision (s .args .limit) (c .before .reference-at .ensures) refl (tabled-here t .gears none) (tabled-here t .windows none)
+    ∙ sym (rows-8-to-10 (session s) (s .args .pmr) _ (e .before .before .if1 .left) (any e) none)
 
 pub decide-whole-spec : {M : Type 1} → statement M
 decide-whole-spec =
@@ -92,9 +89,9 @@ decide-whole-spec =
     any-acceleration-requires
     returns-2
     table-of-requires
-    add-t12
-    cast-t13
+    enum-known-without-window
     returns-3
+    enum-told
     cast-reference-at
     reference-at-requires
     decide-table-requires

@@ -25,8 +25,8 @@ window-of-requires c κs = search needs
 enum-known-h : tie.Need-enum-known-h
 enum-known-h c = search needs
 
-enum-told : tie.Need-enum-told
-enum-told c = search needs
+enum-known-shortage : tie.Need-enum-known-shortage
+enum-known-shortage c = search needs
 
 returns : tie.Need-returns
 unfolding measuredBy
@@ -38,11 +38,11 @@ returns c =
 returns-2 : tie.Need-returns-2
 unfolding measuredBy
 returns-2 c =
-    let w = c .before .before in
+    let w = c .before .before .before in
     let s = w .before .before .before in
-    sym (ap (measuredBy (s .args .g) (s .args .f)) (sym (searched w) ∙ c .enum-told .given .1))
+    sym (ap (measuredBy (s .args .g) (s .args .f)) (sym (searched w) ∙ c .before .shortage .given .1))
 
 pub measure-spec : {M : Type 1} → statement M
 measure-spec =
     tie.close
-    (tie.spec condition-requires window-of-requires enum-known-h enum-told returns returns-2)
+    (tie.spec condition-requires window-of-requires enum-known-h enum-known-shortage returns returns-2)

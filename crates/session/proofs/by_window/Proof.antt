@@ -41,8 +41,8 @@ acceleration-requires c κs =
     let s = e .before .before .before .before .before in
     (window-not-slower (s .args .sheet .now) _ (e .f .given .0 .0) (s .pre .0) refl (is-window e), s .pre .1)
 
-enum-told : tie.Need-enum-told
-enum-told c = search needs
+enum-known-shortage : tie.Need-enum-known-shortage
+enum-known-shortage c = search needs
 
 returns : tie.Need-returns
 unfolding byWindow
@@ -62,8 +62,9 @@ returns-2 c =
 returns-3 : tie.Need-returns-3
 unfolding byWindow
 returns-3 c =
-    let s = c .before .before .before .before .before in
-    sym (ap (byWindow (s .args .track) (s .args .gear)) (sym (searched (c .before .before)) ∙ c .enum-told .given .1))
+    let w = c .before .before .before in
+    let s = w .before .before .before in
+    sym (ap (byWindow (s .args .track) (s .args .gear)) (sym (searched w) ∙ c .before .shortage .given .1))
 
 pub by-window-spec : {M : Type 1} → statement M
 by-window-spec =
@@ -74,7 +75,7 @@ by-window-spec =
     enum-known-f
     slow-enough-requires
     acceleration-requires
-    enum-told
+    enum-known-shortage
     returns
     returns-2
     returns-3)

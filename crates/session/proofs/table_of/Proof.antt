@@ -17,7 +17,7 @@ use Rattle.gears.specs.Rules.{emptyGear}
 use Rattle.session.specs.declared.State.{State}
 use Rattle.session.specs.declared.State.the-variants.{Remains, Dropped, NoRun}
 use Rattle.session.specs.Session.{Session, sessionOf, stateOf, Entry, hasNoWindow, withRemaining, lowestNoWindow}
-use Rattle.session.proofs.Tables.{Tabling, tabling-start, tabling-remains, tabling-other, table-is}
+use Rattle.session.proofs.Tables.{Tabling, tabling-start, tabling-remains, tabling-other, without-at, without-none, table-is}
 use Rattle.session.proofs.table_of.Statement.{statement}
 use Rattle.session.proofs.table_of.Tie as tie
 
@@ -81,11 +81,11 @@ add-here c = omega arith
 array-read-here : tie.Need-array-read-here Inv-loop μ-loop
 array-read-here c = omega arith
 
-add-state-of : tie.Need-add-state-of Inv-loop μ-loop
-add-state-of c = omega arith
+add-gear : tie.Need-add-gear Inv-loop μ-loop
+add-gear c = omega arith
 
-cast-state-of : tie.Need-cast-state-of Inv-loop μ-loop
-cast-state-of c = omega arith
+cast-gear : tie.Need-cast-gear Inv-loop μ-loop
+cast-gear c = omega arith
 
 state-of-requires : tie.Need-state-of-requires Inv-loop μ-loop
 state-of-requires c κs =
@@ -110,21 +110,24 @@ array-set-from-windows c = omega arith
 add-count : tie.Need-add-count Inv-loop μ-loop
 add-count c = omega arith
 
-enum-told : tie.Need-enum-told Inv-loop μ-loop
-enum-told c = search needs
+enum-known-state-2 : tie.Need-enum-known-state-2 Inv-loop μ-loop
+enum-known-state-2 c = search needs
 
 returns : tie.Need-returns Inv-loop μ-loop
 unfolding lowestNoWindow
 returns c =
-    let l = c .before .before .before .before .loop in
-    let here = passed-stop _ _ _ (c .before .before .before .loop-test .taken) (ap hasNoWindow (sym (c .before .before .state-of .ensures) ∙ c .enum-told .given .1)) (l .inv .none) in
-    table-is _ _ _ _ _ here (l .inv .gears-so-far) (l .inv .windows-so-far)
+    let e = c .before in
+    let l = e .before .before .before .before .loop in
+    let inside = e .before .before .before .loop-test .taken in
+    let state = sym (e .before .before .state-of .ensures) ∙ e .state2 .given .1 in
+    let here = passed-stop _ _ _ inside (ap hasNoWindow state) (l .inv .none) in
+    table-is _ _ _ _ _ _ here (without-at _ _ _ here inside state) (l .inv .gears-so-far) (l .inv .windows-so-far)
+
+enum-told : tie.Need-enum-told Inv-loop μ-loop
+enum-told c = search needs
 
 enum-told-2 : tie.Need-enum-told-2 Inv-loop μ-loop
 enum-told-2 c = search needs
-
-enum-told-3 : tie.Need-enum-told-3 Inv-loop μ-loop
-enum-told-3 c = search needs
 
 add-p : tie.Need-add-p Inv-loop μ-loop
 add-p c = omega arith
@@ -150,7 +153,8 @@ returns-2 : tie.Need-returns-2 Inv-loop μ-loop
 unfolding lowestNoWindow
 returns-2 c =
     let l = c .before .loop in
-    table-is _ _ _ _ _ (passed-end _ _ _ (c .loop-test .left) (l .inv .none)) (l .inv .gears-so-far) (l .inv .windows-so-far)
+    let here = passed-end _ _ _ (c .loop-test .left) (l .inv .none) in
+    table-is _ _ _ _ _ _ here (without-none _ _ here (c .loop-test .left)) (l .inv .gears-so-far) (l .inv .windows-so-far)
 
 pub table-of-spec : {M : Type 1} → statement M
 table-of-spec =
@@ -162,8 +166,8 @@ table-of-spec =
     loop-holds
     add-here
     array-read-here
-    add-state-of
-    cast-state-of
+    add-gear
+    cast-gear
     state-of-requires
     enum-known-state
     mul-gears
@@ -171,10 +175,10 @@ table-of-spec =
     mul-windows
     array-set-from-windows
     add-count
-    enum-told
+    enum-known-state-2
     returns
+    enum-told
     enum-told-2
-    enum-told-3
     add-p
     loop-less
     loop-again

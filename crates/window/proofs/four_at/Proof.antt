@@ -17,7 +17,7 @@ use contract.Monad.{Fun}
 use contract.Running.{givenOf, tables, tablesOf}
 use types.Kit.{Given, ‵, _⊛_, ⋆, _$_, _∵_, !, qed, by, move, keep, drop, split, join, fsplit, fjoin, suffices, frame, done}
 use types.Part.{agg}
-use types.Run.{look, init, stop, from, load, lit, bin, assigns, and-then, no-more, returns, enter, alloc1, alloc0, params1, pass1, pass0, free0}
+use types.Run.{look, init, stop, from, load, lit, bin, assigns, and-then, no-more, returns, params1, pass1, pass0}
 use sound.WpLaws.{WpFn-mono}
 use denote.RattleType.{owns}
 use denote.Laws.{Is, shows}
@@ -39,7 +39,7 @@ use Rattle.window.specs.declared.Four.{Four}
 use Rattle.window.specs.Windows.{emptyRun, fourAt}
 use Rattle.window.proofs.ValidRun as S
 use Rattle.window.proofs.Four as F
-use Rattle.window.proofs.Walking.{vals, Ok, freed, copies-run}
+use Rattle.window.proofs.Walking.{vals, Ok, enters, all-freed, copies-run}
 use Rattle.window.proofs.four_at.Key.{name as #four-at}
 use Rattle.window.proofs.four_at as four-at
 use Rattle.window.proofs.four_at.Code as code
@@ -87,27 +87,25 @@ module _ {M : Type 1} (𝓤 : URA M) (H : Heap 𝓤) (A : Atoms 𝓤) (W : Given
   module _ (C : Calls 𝓤 H) (Λ : Loops 𝓤 H) where
     walk : Room S.the-row (length ys) → i < 2 ^ 64 → i + 3 < length ys → ent 𝓤 (onEntry 𝓤 H A four-at.signature (κ, tt) (q, tt) (x, (i, tt)) at) (WpFn 𝓤 H C Λ code.function (v ∷ vint w64 i ∷ []) Post)
     walk gn gi l =
-        qed W ((‵ (flft κ q) ⊛ ‵ ftrue) ∷ ‵ (owns (ShrSlice (named 0) κ S.the-row ∷ usize ∷ []) (x, (i, tt)) at) ∷ []) ∵ enter ! C Λ code.function (v ∷ vint w64 i ∷ []) _ $
-        alloc1 ! (λ l₀. alloc1 ! (λ l₁. alloc1 ! (λ l₂. alloc1 ! (λ l₃. alloc1 ! (λ l₄. alloc1 ! (λ l₅. alloc1 ! (λ l₆. alloc1 ! (λ l₇. alloc1 ! (λ l₈. alloc1 ! (λ l₉. alloc1 ! (λ l₁₀. alloc1 ! (λ l₁₁. alloc1 ! (λ l₁₂. alloc1 ! (λ l₁₃. alloc1 ! (λ l₁₄. alloc1 ! (λ l₁₅. alloc1 ! (λ l₁₆. alloc1 ! (λ l₁₇. alloc0 ! $ params1 ! $
-        pass1 ! (init ! 32 refl (tt, (tt, (record { fits = gn .0 }, tt)))) $ pass1 ! (init ! 30 refl (tt, record { fits = gi })) $ pass0 ! $
+        qed W ((‵ (flft κ q) ⊛ ‵ ftrue) ∷ ‵ (owns (ShrSlice (named 0) κ S.the-row ∷ usize ∷ []) (x, (i, tt)) at) ∷ []) ∵ enters ! C Λ code.function (v ∷ vint w64 i ∷ []) _ (λ bs. params1 ! $
+        -- [what frees the locals; _0; …; _17; the token and true; what runs and i own]
+        pass1 ! (init ! 2 refl (tt, (tt, (record { fits = gn .0 }, tt)))) $ pass1 ! (init ! 3 refl (tt, record { fits = gi })) $ pass0 ! $
         -- of what runs owns the fractured borrow is kept, beside the token
-        move ! (37 ∷ []) $ fsplit ! $ fsplit ! $ drop ! $ fsplit ! $ drop ! $ move ! (38 ∷ []) $ split ! $ move ! (2 ∷ 0 ∷ []) $
+        move ! (20 ∷ []) $ fsplit ! $ fsplit ! $ drop ! $ fsplit ! $ drop ! $ move ! (21 ∷ []) $ split ! $ move ! (2 ∷ 0 ∷ []) $
         looks-slice ! tt S.the-row (Is S.the-row) (shows 𝓤 H A S.the-row) vals (LL.tells S.the-type S′.the-laws) (LL.copy S.the-type S′.the-copy 𝓤 H A W) ys b o (λ q′.
-        -- [the row; what shuts; the fractured borrow; true; i's; _17; …; _0; …]. Before each read: the row, the index, runs, and room for the offset, the pointer and the run
-        move ! (0 ∷ 35 ∷ 37 ∷ 33 ∷ 31 ∷ 29 ∷ []) $ copies-run ! q′ ys b o i gn at₀ refl refl refl refl refl (λ g₀.
-        assigns ! (bin ! (load ! (from ! (stop !)) (look ! 1 refl)) (lit ! tt) (record { fits = fits at₁ })) (from ! (stop !)) (init ! 32 refl (tt, record { fits = fits at₁ })) $
-        move ! (0 ∷ 32 ∷ 2 ∷ 30 ∷ 28 ∷ 26 ∷ []) $ copies-run ! q′ ys b o (i + 1) gn at₁ refl refl refl refl refl (λ g₁.
-        assigns ! (bin ! (load ! (from ! (stop !)) (look ! 6 refl)) (lit ! tt) (record { fits = fits at₂ })) (from ! (stop !)) (init ! 28 refl (tt, record { fits = fits at₂ })) $
-        move ! (0 ∷ 28 ∷ 2 ∷ 26 ∷ 24 ∷ 22 ∷ []) $ copies-run ! q′ ys b o (i + 2) gn at₂ refl refl refl refl refl (λ g₂.
-        assigns ! (bin ! (load ! (from ! (stop !)) (look ! 10 refl)) (lit ! tt) (record { fits = fits l })) (from ! (stop !)) (init ! 24 refl (tt, record { fits = fits l })) $
-        move ! (0 ∷ 24 ∷ 2 ∷ 22 ∷ 20 ∷ 18 ∷ []) $ copies-run ! q′ ys b o (i + 3) gn l refl refl refl refl refl (λ g₃.
+        -- [the row; what shuts; the fractured borrow; true; i's; what frees the locals; _0; …; _17]. Before each read: the row, the index, runs, and room for the offset, the pointer and the run
+        move ! (0 ∷ 8 ∷ 7 ∷ 9 ∷ 10 ∷ 11 ∷ []) $ copies-run ! q′ ys b o i gn at₀ refl refl refl refl refl (λ g₀.
+        assigns ! (bin ! (load ! (from ! (stop !)) (look ! 1 refl)) (lit ! tt) (record { fits = fits at₁ })) (from ! (stop !)) (init ! 12 refl (tt, record { fits = fits at₁ })) $
+        move ! (0 ∷ 12 ∷ 2 ∷ 13 ∷ 14 ∷ 15 ∷ []) $ copies-run ! q′ ys b o (i + 1) gn at₁ refl refl refl refl refl (λ g₁.
+        assigns ! (bin ! (load ! (from ! (stop !)) (look ! 6 refl)) (lit ! tt) (record { fits = fits at₂ })) (from ! (stop !)) (init ! 16 refl (tt, record { fits = fits at₂ })) $
+        move ! (0 ∷ 16 ∷ 2 ∷ 17 ∷ 18 ∷ 19 ∷ []) $ copies-run ! q′ ys b o (i + 2) gn at₂ refl refl refl refl refl (λ g₂.
+        assigns ! (bin ! (load ! (from ! (stop !)) (look ! 10 refl)) (lit ! tt) (record { fits = fits l })) (from ! (stop !)) (init ! 20 refl (tt, record { fits = fits l })) $
+        move ! (0 ∷ 20 ∷ 2 ∷ 21 ∷ 22 ∷ 23 ∷ []) $ copies-run ! q′ ys b o (i + 3) gn l refl refl refl refl refl (λ g₃.
         move ! (0 ∷ 18 ∷ []) $ shuts-slice ! tt S.the-row q′ ys b o $
-        -- [the token; _14; _1; _15; _16; _17; _10; …; _13; _6; …; _9; _2; …; _5; the fractured borrow; true; i's; what frees _17; …; what frees _1; _0; …]
-        assigns ! (agg ! (and-then ! (load ! (from ! (stop !)) (look ! 17 refl)) (and-then ! (load ! (from ! (stop !)) (look ! 13 refl)) (and-then ! (load ! (from ! (stop !)) (look ! 9 refl)) (and-then ! (load ! (from ! (stop !)) (look ! 5 refl)) (no-more !)))))) (from ! (stop !)) (init ! 38 refl (LL.lawful F.the-type F′.the-laws 𝓤 H A W .typed four _ (made g₀ g₁ g₂ g₃) .0)) $
-        returns ! (look ! 38 refl) $
-        move ! (38 ∷ 39 ∷ 2 ∷ 37 ∷ 14 ∷ 36 ∷ 15 ∷ 35 ∷ 16 ∷ 34 ∷ 17 ∷ 33 ∷ 10 ∷ 32 ∷ 11 ∷ 31 ∷ 12 ∷ 30 ∷ 13 ∷ 29 ∷ 6 ∷ 28 ∷ 7 ∷ 27 ∷ 8 ∷ 26 ∷ 9 ∷ 25 ∷ 1 ∷ 24 ∷ 3 ∷ 23 ∷ 4 ∷ 22 ∷ 5 ∷ 21 ∷ []) $
-        freed ! $ freed ! $ freed ! $ freed ! $ freed ! $ freed ! $ freed ! $ freed ! $ freed ! $ freed ! $ freed ! $ freed ! $ freed ! $ freed ! $ freed ! $ freed ! $ freed ! $ freed ! $ free0 ! $
-        keep ! (0 ∷ []) $ by ! (exits (made g₀ g₁ g₂ g₃)))))))))))))))))))))))))
+        -- [the token; _14; _1; _15; _16; _17; _10; …; _13; _6; …; _9; _2; …; _5; the fractured borrow; true; i's; what frees the locals; _0]
+        assigns ! (agg ! (and-then ! (load ! (from ! (stop !)) (look ! 17 refl)) (and-then ! (load ! (from ! (stop !)) (look ! 13 refl)) (and-then ! (load ! (from ! (stop !)) (look ! 9 refl)) (and-then ! (load ! (from ! (stop !)) (look ! 5 refl)) (no-more !)))))) (from ! (stop !)) (init ! 22 refl (LL.lawful F.the-type F′.the-laws 𝓤 H A W .typed four _ (made g₀ g₁ g₂ g₃) .0)) $
+        returns ! (look ! 22 refl) $
+        move ! (0 ∷ 21 ∷ 22 ∷ 2 ∷ 14 ∷ 15 ∷ 16 ∷ 17 ∷ 10 ∷ 11 ∷ 12 ∷ 13 ∷ 6 ∷ 7 ∷ 8 ∷ 9 ∷ 1 ∷ 3 ∷ 4 ∷ 5 ∷ []) $ all-freed ! [] _ refl $ keep ! (0 ∷ []) $ by ! (exits (made g₀ g₁ g₂ g₃))))))))
       where
         at₀ : i < length ys
         at₀ = omega arith

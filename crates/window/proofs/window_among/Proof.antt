@@ -23,7 +23,7 @@ use contract.Running.{givenOf, tables, tablesOf}
 use types.Kit.{Given, ‵, raw, _⊛_, ⋆, some, later, _$_, _∵_, !, qed, by, move, keep, drop, use1, use2, split, join, pick, rewrite, fsplit, fjoin, fpick, fpack, feqI, suffices, frame, await, done}
 use types.Tokens.{lft-new, lft-end, lent-back}
 use types.Part.{agg}
-use types.Run.{look, init, stop, from, load, of-opd, addr, assigns, and-then, no-more, land, returns, enter, alloc1, alloc0, params1, pass1, pass0, free1, free0}
+use types.Run.{look, init, stop, from, load, of-opd, addr, assigns, and-then, no-more, land, returns, params1, pass1, pass0}
 use types.Share.{arr-parts}
 use sound.WpLaws.{FmC, fmOf, WpFn-mono}
 use denote.RattleType.{RattleType, owns}
@@ -51,7 +51,7 @@ use denote.Exit.{yes}
 use Rattle.window.specs.declared.ValidRun.{ValidRun}
 use Rattle.window.specs.declared.Window.{Window}
 use Rattle.window.specs.Windows.{firstWindow}
-use Rattle.window.proofs.Walking.{vals, freed, answers}
+use Rattle.window.proofs.Walking.{vals, enters, all-freed, answers}
 use Rattle.window.proofs.ValidRun as S
 use Rattle.window.proofs.Window as D
 use Rattle.window.proofs.first_window as first-window
@@ -158,28 +158,27 @@ module _ {M : Type 1} (𝓤 : URA M) (H : Heap 𝓤) (A : Atoms 𝓤) (W : Given
   module _ (C : Calls 𝓤 H) (Λ : Loops 𝓤 H) (fm : FmC 𝓤 H (W .laws) C) (known : Triple 𝓤 (C #first-window) (FirstWindow 𝓤 H A mem run)) where
     walk : Is Runs a (m ∷ []) → n < 2 ^ 64 → n ≤ N → ent 𝓤 (onEntry 𝓤 H A window-among.signature tt tt (a, (n, tt)) at) (WpFn 𝓤 H C Λ code.function (m ∷ vint w64 n ∷ []) Post)
     walk p gn le =
-        qed W (‵ ftrue ∷ ‵ (owns (Runs ∷ usize ∷ []) (a, (n, tt)) at) ∷ []) ∵ enter ! C Λ code.function (m ∷ vint w64 n ∷ []) _ $
-        alloc1 ! (λ l₀. alloc1 ! (λ l₁. alloc1 ! (λ l₂. alloc1 ! (λ l₃. alloc1 ! (λ l₄. alloc1 ! (λ l₅. alloc0 ! $ params1 ! $
-        pass1 ! (init ! 8 refl typed) $ pass1 ! (init ! 6 refl (tt, record { fits = gn })) $ pass0 ! $
-        assigns ! (of-opd ! (load ! (from ! (stop !)) (look ! 8 refl))) (from ! (stop !)) (init ! 4 refl typed) $
-        assigns ! (addr ! (from ! (stop !))) (from ! (stop !)) (init ! 2 refl (tt, tt)) $
-        assigns ! (agg ! (and-then ! (load ! (from ! (stop !)) (look ! 2 refl)) (and-then ! (load ! (from ! (stop !)) (look ! 6 refl)) (no-more !)))) (from ! (stop !)) (init ! 0 refl (tt, (tt, (record { fits = gn }, tt)))) $
-        rewrite ! 0 (λ (k : ℕ). ‵ (fat fullShare slice l₅ 0 (sliceVal (l₃, 0) k))) (sym (prefix-length a n (p .1 .0 .1) le)) refl $
+        qed W (‵ ftrue ∷ ‵ (owns (Runs ∷ usize ∷ []) (a, (n, tt)) at) ∷ []) ∵ enters ! C Λ code.function (m ∷ vint w64 n ∷ []) _ (λ bs. let l₃ : ℕ = bs .1 .1 .1 .0 in let l₅ : ℕ = bs .1 .1 .1 .1 .1 .0 in
+        -- [what frees the locals; _0; …; _5; …]
+        params1 ! $ pass1 ! (init ! 2 refl typed) $ pass1 ! (init ! 3 refl (tt, record { fits = gn })) $ pass0 ! $
+        assigns ! (of-opd ! (load ! (from ! (stop !)) (look ! 2 refl))) (from ! (stop !)) (init ! 4 refl typed) $
+        assigns ! (addr ! (from ! (stop !))) (from ! (stop !)) (init ! 5 refl (tt, tt)) $
+        assigns ! (agg ! (and-then ! (load ! (from ! (stop !)) (look ! 5 refl)) (and-then ! (load ! (from ! (stop !)) (look ! 3 refl)) (no-more !)))) (from ! (stop !)) (init ! 6 refl (tt, (tt, (record { fits = gn }, tt)))) $
+        rewrite ! 6 (λ (k : ℕ). ‵ (fat fullShare slice l₅ 0 (sliceVal (l₃, 0) k))) (sym (prefix-length a n (p .1 .0 .1) le)) refl $
         -- _3 is lent whole, for a lifetime that is made here, and the slice is its first n
         move ! (4 ∷ []) $ use1 W (‵ (Elems 𝓤 H A W a (length a) l₃)) (lies 𝓤 H A W a l₃ p) $
         lft-new ! tt (λ α. move ! (1 ∷ []) $
         use1 W (later (some (λ (γ : GName). ‵ (Part α l₃ γ a) ⊛ ‵ (flent (α ∷ []) (Elems 𝓤 H A W a (length a) l₃))))) (B.lends-shr-slice 𝓤 H A W S.the-row erased (α ∷ []) fullShare a l₃ 0 (roomy (length a) (p .1 .0 .1))) $ await ! tt $ pick ! (λ γ₀. split ! $ move ! (0 ∷ 2 ∷ []) $
         use2 W (later (some (λ (γ : GName). ‵ (Part α l₃ γ ys) ⊛ ‵ (flft (α ∷ []) fullShare)))) (shs-prefix-same 𝓤 H A W S.the-row (α ∷ []) fullShare l₃ (λ zs b o. slice-halves 𝓤 H A W S.the-row (Is S.the-row) (shows 𝓤 H A S.the-row) vals (LL.tells S.the-type S′.the-laws) (LL.copy S.the-type S′.the-copy 𝓤 H A W) (length zs) zs b o) 0 γ₀ a n) $ await ! tt $ pick ! (λ γ. split ! $
         use2 W (raw (FirstWindow 𝓤 H A mem run .pre (to-first α l₃ γ))) (goes-first α l₃ γ) $
-        -- [what `first_window` asks; what is lent; _5; …; _4; …; what frees _3; _2; …; _1; …; _0; …]
-        calls-at ! fm (FirstWindow 𝓤 H A mem run) known (to-first α l₃ γ) (and-then ! (load ! (from ! (stop !)) (look ! 2 refl)) (no-more !)) (λ u.
+        -- [what `first_window` asks; what is lent; what frees the locals; _0; _1; _2; _4; _5; …]
+        calls-at ! fm (FirstWindow 𝓤 H A mem run) known (to-first α l₃ γ) (and-then ! (load ! (from ! (stop !)) (look ! 7 refl)) (no-more !)) (λ u.
         answers ! u first-window.ended (α ∷ [], tt) (x l₃ γ, tt) (‵ (flft (α ∷ []) fullShare) ⊛ ‵ ftrue) D.the-row val (EL.tells D.the-type D′.the-laws) (firstWindow ys) (λ is.
-        -- [the token and true; what is lent; _5; …]: the lifetime is over, and _3 is back
+        -- [the token and true; what is lent; …]: the lifetime is over, and _3 is back
         split ! $ lft-end ! tt $ move ! (0 ∷ 2 ∷ []) $ lent-back ! tt $ use1 W (‵ (froom array l₃ 0)) (lies-back 𝓤 H A W a l₃ (p .1 .0 .1)) $
-        -- [room of _3; true; _5; …; _4; …; what frees _3; _2; …; _1; …; _0; …]
-        land ! (from ! (stop !)) (init ! 11 refl (EL.lawful D.the-type D′.the-laws 𝓤 H A W tt .typed (firstWindow ys) _ is .0)) $
-        returns ! (look ! 11 refl) $ move ! (11 ∷ 12 ∷ 9 ∷ 10 ∷ 7 ∷ 8 ∷ 0 ∷ 6 ∷ 4 ∷ 5 ∷ 2 ∷ 3 ∷ []) $ freed ! $ freed ! $ freed ! $ free1 ! $ freed ! $ freed ! $ free0 ! $
-        keep ! (0 ∷ []) $ by ! (exits is))))))))))))
+        -- [room of _3; true; what frees the locals; _0; _1; _2; _4; _5; …]
+        land ! (from ! (stop !)) (init ! 3 refl (EL.lawful D.the-type D′.the-laws 𝓤 H A W tt .typed (firstWindow ys) _ is .0)) $
+        returns ! (look ! 3 refl) $ move ! (1 ∷ 2 ∷ 3 ∷ 4 ∷ 5 ∷ 0 ∷ []) $ all-freed ! (3 ∷ []) _ refl $ keep ! (0 ∷ []) $ by ! (exits is)))))))
       where
         typed : T (hasTy array m) × WT m
         typed = array-lawful 𝓤 H A W S.the-row (LL.lawful S.the-type S′.the-laws 𝓤 H A W) N .typed a (m ∷ []) p .0
