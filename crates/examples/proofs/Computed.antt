@@ -19,9 +19,9 @@ use Rattle.refusal.specs.Refusal.{answerNumber}
 use Rattle.level.specs.Reading.{inRange, readingOf}
 use Rattle.level.specs.Level.{tenthsOf, corrections, correctionOf, correctedSide, sideOf}
 use Rattle.record.specs.Records.{records, recordAt, zeros, backgroundsIn, vehicleTests, vehicleGood, vehicleIn, runTests, runGood, runIn, readingFrom, closingTests, closingGood, closingIn, rightGood}
-use Rattle.sheet.specs.Sheet.{wrongSize, noVehicle, noClosing, anyAcceleration}
+use Rattle.sheet.specs.Sheet.{wrongSize, noVehicle, noClosing, anyAcceleration, goodBy, lowestBrokenBy, examinedBy}
 use Rattle.window.specs.Windows.{spanned, fitting, emptyRun, fourAt, firstPlace, shortageOf, firstWindow, largerSum, conditionLevel, emptyFour}
-use Rattle.valid_runs.specs.ValidRuns.{backgroundsOf, bothSides, validOf, candidateOf, restFrom, restOf}
+use Rattle.valid_runs.specs.ValidRuns.{backgroundsOf, bothSides, validOf, candidateOf, restFrom, restOf, windowOf}
 use Rattle.reference.specs.Reference.{pmrOf, between, aUrban, aRef, referenceAt}
 use Rattle.limit.specs.Limits.{limitTable, classOf, tableLimit, limitOf}
 use Rattle.gears.specs.Acceleration.{accelerationOf, meanOf}
@@ -30,14 +30,14 @@ use Rattle.session.specs.Session.{slowEnough, gearAcceleration, byWindow}
 use Rattle.urban.specs.Urban.{weighedLevel, basisOf, partPower, lUrbanOf, outcomeOf}
 use Rattle.result.specs.Result.{resultBytes, outcomeIn, fieldsOf}
 use Rattle.decision.specs.declared.Decision.{Decision}
-use Rattle.decision.specs.Decision.{windowAt, measuredBy, oneOf, pairOf, finishBy, unlessWithout, trackOf, sheetVehicle, sheetClosing, sheetBackgrounds, pmrIn, sheetLimit, sheetSession, referenceIn}
+use Rattle.decision.specs.Decision.{windowAt, measuredBy, oneOf, pairOf, finishBy, unlessWithout, trackOf, sheetVehicle, sheetClosing, sheetBackgrounds, pmrIn, sheetLimit, sheetSession, referenceIn, measuredAt, selectedIn, decideGears}
 use Rattle.evaluation.specs.Answer.{answerBy, answerFor, answerOf, bufferBy, bufferFor, bufferOf}
 use Rattle.evaluation.specs.EarlierSheets.{earlierLayouts, noneLookedUp, unnamedGood, writtenLimit, oneBackground, withWritten, withOneAndWritten}
 use Rattle.evaluation.specs.Demand.{chosenRunsBy, chosenRuns}
 use Rattle.text.specs.Text.{digitsOf, decimalOf, spaced, lineWith}
 use Rattle.line.specs.Line.{acceptedWord, lineOf, lineOfSheet}
 use Rattle.examples.specs.Starred.{Example, tenths, corrected, windowed, references, accelerated, chosen, powered, printed, evaluated, limitAndPass, evaluationGives, limitAndPassGives, gives, shouldGive, starred, sided, limited, shortages, workedWith, workedSheet, limitZero}
-use Rattle.examples.proofs.Quick.{cut, runsIn, goodIn, brokenIn, brokenExamined, quickExamined, someOf, acceleratesIn, restIn, stateIn, statesFrom, lowestIn, remainingIn, measuredIn, choiceSelected, gearsDecided, entriesDecided, withoutIn, statesDecided, runsDecided, limitDecided, quickBy, quickOver, quickDecision, entriesSelected, runsSelected, quickSelection, quick-is, decision-quick, selection-quick}
+use Rattle.examples.proofs.Quick.{cut, runsIn, someOf, acceleratesIn, restIn, stateIn, statesFrom, lowestIn, remainingIn, entriesDecided, withoutIn, statesDecided, statesOf, quickWhole, quickLimited, quickBy, quickOver, quickDecision, entriesSelected, quickSelection, quick-is, decision-quick, selection-quick}
 
 unfoldable pub same : List ℕ → List ℕ → Bool
 same [] [] = true
@@ -150,7 +150,7 @@ tests =
     ∷ []
 
 computed : T (allOf tests)
-unfolding tests starred sided limited shortages test evaluatedBy quickly same quickWritten quickOneAndWritten cut runsIn goodIn brokenIn brokenExamined quickExamined someOf acceleratesIn restIn stateIn statesFrom lowestIn remainingIn measuredIn choiceSelected gearsDecided entriesDecided withoutIn statesDecided runsDecided limitDecided quickBy quickOver quickDecision entriesSelected runsSelected quickSelection number lowest some pastLast rounded corrections correctionOf correctedSide sideOf inRange tenthsOf readingOf ofBits pmrOf between aUrban aRef referenceAt records recordAt zeros backgroundsIn vehicleTests vehicleGood vehicleIn runTests runGood runIn readingFrom closingTests closingGood closingIn wrongSize noVehicle noClosing anyAcceleration backgroundsOf bothSides validOf candidateOf restFrom restOf spanned fitting emptyRun fourAt firstPlace shortageOf firstWindow largerSum conditionLevel emptyFour accelerationOf meanOf emptyGear gearAt a firstNotFalling gap near nearer nearest jOf firstBelow oneAt acrossOf choiceOf kOf slowEnough gearAcceleration byWindow weighedLevel basisOf partPower lUrbanOf outcomeOf windowAt measuredBy oneOf pairOf finishBy unlessWithout trackOf sheetVehicle sheetClosing sheetBackgrounds pmrIn sheetLimit sheetSession referenceIn resultBytes outcomeIn fieldsOf answerBy bufferBy oneBackground writtenLimit limitTable classOf tableLimit limitOf digitsOf decimalOf spaced lineWith acceptedWord lineOf
+unfolding tests starred sided limited shortages test evaluatedBy quickly same quickWritten quickOneAndWritten cut runsIn someOf acceleratesIn restIn stateIn statesFrom lowestIn remainingIn entriesDecided withoutIn statesDecided quickBy quickOver quickDecision entriesSelected quickSelection number lowest some pastLast rounded corrections correctionOf correctedSide sideOf inRange tenthsOf readingOf ofBits pmrOf between aUrban aRef referenceAt records recordAt zeros backgroundsIn vehicleTests vehicleGood vehicleIn runTests runGood runIn readingFrom closingTests closingGood closingIn wrongSize noVehicle noClosing anyAcceleration backgroundsOf bothSides validOf candidateOf restFrom restOf spanned fitting emptyRun fourAt firstPlace shortageOf firstWindow largerSum conditionLevel emptyFour accelerationOf meanOf emptyGear gearAt a firstNotFalling gap near nearer nearest jOf firstBelow oneAt acrossOf choiceOf kOf slowEnough gearAcceleration byWindow weighedLevel basisOf partPower lUrbanOf outcomeOf windowAt measuredBy oneOf pairOf finishBy unlessWithout trackOf sheetVehicle sheetClosing sheetBackgrounds pmrIn sheetLimit sheetSession referenceIn resultBytes outcomeIn fieldsOf answerBy bufferBy oneBackground writtenLimit limitTable classOf tableLimit limitOf digitsOf decimalOf spaced lineWith acceptedWord lineOf statesOf quickWhole quickLimited examinedBy goodBy lowestBrokenBy selectedIn measuredAt decideGears windowOf
 computed = tt
 
 passed : (k : ℕ) → T (getD tests k true)
