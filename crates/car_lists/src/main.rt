@@ -1,5 +1,7 @@
 // Prints what is known after the cars of each list in a file, on a line of its own. In the file, a list is its limit, the number of its
 // cars and then the L_urban of each, in two bytes each, low byte first.
+#![tactic(auto)]
+
 use libc::STDOUT_FILENO;
 use production::{Check, Status};
 

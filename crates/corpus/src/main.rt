@@ -1,5 +1,7 @@
 // Prints the line of each sheet of the driven examples, and then of each of the corpus. In a file, a sheet stands after its length in
 // four bytes, low byte first; the length 0xffffffff ends the file.
+#![tactic(auto)]
+
 use libc::STDOUT_FILENO;
 use program::Transfer;
 

@@ -1,5 +1,7 @@
 // What is decided for a byte string: the first refusal of the table whose cause holds (row 2 and those after it), or the fields of the result with
 // the limit found. No buffer is known here.
+#![tactic(auto)]
+
 ghost use Rattle.std.specs.Prelude.{◌≡◌, ◌≤◌, ◌<◌, length};
 ghost use Rattle.sheet.specs.declared.Examination.TheVariants.{Whole};
 ghost use Rattle.sheet.specs.Sheet.{examined, RunsGood};
@@ -19,21 +21,21 @@ use urban::{Chosen, ChosenGear, Outcome};
 use window::{Four, Window};
 
 // A gear with both its windows, or the refusal if it has no constant-speed window.
-#[derive(Drop)]
+#[derive(Clone, Copy)]
 pub enum Measured {
     Windows(ChosenGear),
     Refused(Refusal),
 }
 
 // The chosen gears with their windows, or a refusal.
-#[derive(Drop)]
+#[derive(Clone, Copy)]
 pub enum Selection {
     Chosen(Chosen),
     Refused(Refusal),
 }
 
 // What is decided for a sheet: the fields of the result and the limit that L_urban was judged against, in whole dB(A), or a refusal.
-#[derive(Drop)]
+#[derive(Clone, Copy)]
 pub enum Decision {
     Result(Outcome, u16),
     Refused(Refusal),

@@ -1,5 +1,7 @@
 // The driven examples of document 01, those of wish 2 of document 02, and what stands under "Where the spreadsheet tempts", by single
 // functions: each on a line.
+#![tactic(auto)]
+
 ghost use Rattle.std.specs.Prelude.{◌≤◌};
 
 use gears::{Choice, Gear};

@@ -1,5 +1,7 @@
 // The evaluation, the verdict on the levels of a motorcycle, production checks and the test mass of lorries, for programs in C and Rust. A slice is
 // a pointer and a length, an array a pointer, and an answer is numbers.
+#![tactic(auto)]
+
 ghost use Rattle.std.specs.Prelude.{◌≡◌, length};
 ghost use Rattle.units.specs.Bytes.{number};
 ghost use Rattle.refusal.specs.Refusal.{answer_number, answer_place};

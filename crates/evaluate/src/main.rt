@@ -1,4 +1,6 @@
 // Evaluates the sheet on standard input and prints its line on standard output. What keeps it from that goes to standard error.
+#![tactic(auto)]
+
 use libc::{STDERR_FILENO, STDIN_FILENO, STDOUT_FILENO};
 use program::Ending;
 

@@ -1,5 +1,7 @@
 // The evaluation of a sheet: any byte string to a result, or to one numbered refusal, with what it promises. Beside the code stand the table of
 // refusals, close and rising, all as definitions of bytes.
+#![tactic(auto)]
+
 ghost use Rattle.std.specs.Prelude.{◌≡◌, length};
 ghost use Rattle.units.specs.Bytes.{number};
 ghost use Rattle.evaluation.specs.Answer.{answer_of, buffer_of};

@@ -1,5 +1,7 @@
 // Goes through every 32-bit float from 20.0 to 140.0. Compares the tenths that `level` gives with a reckoning in whole numbers that goes
 // from one float to the next, and prints what it found for each ten decibels. Then some patterns of no level.
+#![tactic(auto)]
+
 ghost use Rattle.std.specs.Prelude.{◌≡◌, ◌+◌, ◌<◌, ◌≤◌};
 ghost use Rattle.units.specs.Bytes.{number};
 ghost use Rattle.level.specs.Reading.{reading_of};
@@ -19,7 +21,7 @@ const HIGHEST: u32 = 73400320;
 const TEN: u32 = 5242880;
 
 // Where the walk stands: a float's pattern, its value as a number of 2^-19, and its tenths.
-#[derive(Drop)]
+#[derive(Clone, Copy)]
 struct Walk {
     pattern: u32,
     value: u32,
@@ -28,7 +30,7 @@ struct Walk {
 
 // What was found: how many floats, how many whose tenths differ, the sum of the tenths, and the sum of these sums, which depends on the
 // order too.
-#[derive(Drop)]
+#[derive(Clone, Copy)]
 struct Tally {
     count: u64,
     differ: u64,
@@ -37,7 +39,7 @@ struct Tally {
 }
 
 // A part of the walk: where it ended, and what it found.
-#[derive(Drop)]
+#[derive(Clone, Copy)]
 struct Part {
     walk: Walk,
     tally: Tally,

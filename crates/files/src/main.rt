@@ -1,5 +1,7 @@
 // Does the evaluation program's job on each file of data/, opened by name, and on descriptors that cannot be read or written. It prints the
 // file's name before its line, or what became of the job. `data/contents.txt` says what each file holds.
+#![tactic(auto)]
+
 use libc::STDOUT_FILENO;
 use program::Ending;
 

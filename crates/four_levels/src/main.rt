@@ -1,5 +1,7 @@
 // Prints the verdict on each set of four levels in a file, on a line of its own. In the file, a set and its limit are 18 bytes: the bit
 // pattern of each level in four, then the limit in two, low byte first.
+#![tactic(auto)]
+
 use libc::STDOUT_FILENO;
 use motorcycle::Verdict;
 

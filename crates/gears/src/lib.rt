@@ -1,4 +1,6 @@
 // Accelerations and the gear rules (document 01, "From levels to windows", step 6, and "Gears"). No level comes in here.
+#![tactic(auto)]
+
 ghost use Rattle.std.specs.Prelude.{◌≡◌, cond, ◌&&◌, ◌*◌, ◌≤◌, ◌<◌, ltb, take};
 ghost use Rattle.gears.specs.Acceleration.{acceleration_of, mean_of};
 ghost use Rattle.gears.specs.Rules.{first_not_falling, gap, near, nearest, j_of, first_below, across_of, choice_of, k_of};
@@ -31,7 +33,7 @@ pub fn mean(a: Hundredths, b: Hundredths, c: Hundredths, d: Hundredths) -> Hundr
 }
 
 // A gear that remains.
-#[derive(Drop)]
+#[derive(Clone, Copy)]
 pub struct Gear {
     pub number: u8,
     pub acceleration: Hundredths,
@@ -83,7 +85,7 @@ fn is_near(a_ref: Hundredths, x: Hundredths) -> bool
 }
 
 // The nearest gear so far: its place, and how far it is from R.
-#[derive(Drop)]
+#[derive(Clone, Copy)]
 struct Best {
     place: usize,
     distance: Hundredths,
@@ -122,7 +124,7 @@ fn nearest_place(gears: [Gear; 16], count: usize, reference: Reference) -> usize
 }
 
 // What the rules decide on: the rule, and a place among the remaining gears.
-#[derive(Drop)]
+#[derive(Clone, Copy)]
 pub enum Choice {
     // that gear alone
     One(u8, usize),

@@ -1,5 +1,7 @@
 // From a reading of the meter to one side's corrected level (document 01, "The sheet", and "From levels to windows", steps 1 to 3;
 // document 02, wish 2). Floats are rounded and compared here alone; nothing is known of runs.
+#![tactic(auto)]
+
 ghost use Rattle.std.specs.Prelude.{◌≡◌, ◌+◌, ◌≤◌, length, T};
 ghost use Rattle.std.specs.Float.{binary32};
 ghost use Rattle.std.specs.Float.Ieee.{of_bits};
@@ -10,7 +12,7 @@ ghost use Rattle.level.specs.Level.{tenths_of, correction_of, corrected_side, si
 use units::Tenths;
 
 // What the meter gave for one side of a run.
-#[derive(Drop)]
+#[derive(Clone, Copy)]
 pub enum Reading {
     Level(f32),
     // the last level shown
@@ -19,14 +21,14 @@ pub enum Reading {
 }
 
 // A reading as it stands in a record, or a layout that is broken.
-#[derive(Drop)]
+#[derive(Clone, Copy)]
 pub enum Found {
     Good(Reading),
     Broken,
 }
 
 // The float of a bit pattern, if it is a level in range.
-#[derive(Drop)]
+#[derive(Clone, Copy)]
 enum Pattern {
     InRange(f32),
     Outside,
@@ -92,7 +94,7 @@ pub fn tenths(x: f32) -> Tenths
 }
 
 // A side of a run: its corrected level, or nothing that counts.
-#[derive(Drop)]
+#[derive(Clone, Copy)]
 pub enum Side {
     Corrected(Tenths),
     NotValid,

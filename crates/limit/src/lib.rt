@@ -1,4 +1,6 @@
 // The limit of a session (document 02, wish 1): the written one, or that of the table by PMR, phase and byte 17; or refusal 11 or 12.
+#![tactic(auto)]
+
 ghost use Rattle.std.specs.Prelude.{◌≡◌, ◌≤◌};
 ghost use Rattle.limit.specs.Limits.{class_of, has_entry, table_limit, limit_of};
 
@@ -6,7 +8,7 @@ use record::Vehicle;
 use refusal::Refusal;
 
 // The limit found, in whole dB(A), or a refusal.
-#[derive(Drop)]
+#[derive(Clone, Copy)]
 pub enum Limit {
     Found(u16),
     Refused(Refusal),

@@ -1,4 +1,6 @@
 // The line that the evaluation program prints for a sheet, laid out on a lent buffer.
+#![tactic(auto)]
+
 ghost use Rattle.std.specs.Prelude.{◌≡◌, ◌≤◌, length};
 ghost use Rattle.result.specs.Result.{outcome_in, fields_of};
 ghost use Rattle.text.specs.Text.{onto};

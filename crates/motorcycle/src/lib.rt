@@ -1,5 +1,7 @@
 // The verdict on the four levels of a motorcycle (document 02, wish 14; document 003, annex 3, 1.5). Nothing else is asked for: no sheet and
 // no background.
+#![tactic(auto)]
+
 ghost use Rattle.std.specs.Prelude.{◌≡◌, ◌≤◌, T};
 ghost use Rattle.std.specs.Float.{binary32};
 ghost use Rattle.std.specs.Float.Ieee.{of_bits};
@@ -8,7 +10,7 @@ ghost use Rattle.motorcycle.specs.Verdict.{first_outside, whole_of, far_apart, v
 ghost use Rattle.motorcycle.specs.Patterns.{levels_of};
 
 // Four levels as the meter gave them, any floats: 1 and 2 are of the left side, 3 and 4 of the right.
-#[derive(Drop)]
+#[derive(Clone, Copy)]
 pub struct Levels {
     pub first: f32,
     pub second: f32,
@@ -17,11 +19,11 @@ pub struct Levels {
 }
 
 // A mean of four levels, in quarters of a dB(A).
-#[derive(Drop)]
+#[derive(Clone, Copy)]
 pub struct Quarters(pub u16);
 
 // What four levels and a limit give.
-#[derive(Drop)]
+#[derive(Clone, Copy)]
 pub enum Verdict {
     // the mean, and whether it passes
     Judged(Quarters, bool),

@@ -2,6 +2,8 @@
 //
 // No contract can say what the system reads, writes and answers. These say what an answer means, how many bytes there is room for, and which line
 // is laid out for the bytes that were counted.
+#![tactic(auto)]
+
 ghost use Rattle.std.specs.Prelude.{◌≡◌, ◌-◌, ◌≤◌, length, take};
 ghost use Rattle.text.specs.Text.{onto};
 ghost use Rattle.line.specs.Line.{line_of_sheet};
@@ -13,14 +15,14 @@ pub const SHEET_ROOM: usize = 32769;
 pub const LINE_ROOM: usize = line::ROOM;
 
 // What a call of read or write came to: how many bytes it moved, or that it failed.
-#[derive(Drop)]
+#[derive(Clone, Copy)]
 pub enum Transfer {
     Bytes(usize),
     Failed,
 }
 
 // What became of the job, with the numbers of bytes that were read and written.
-#[derive(Drop)]
+#[derive(Clone, Copy)]
 pub enum Ending {
     Printed { read: usize, written: usize },
     NotRead,

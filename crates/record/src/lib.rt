@@ -1,5 +1,7 @@
 // Records of 32 bytes (document 01, "The sheet"): how one is shown, its fields, and the layout of the vehicle, run and closing record. Which
 // record stands where in a sheet is not known here.
+#![tactic(auto)]
+
 ghost use Rattle.std.specs.Prelude.{◌≡◌, false, not, ◌||◌, ◌+◌, ◌-◌, ◌≤◌, ◌<◌, length, leb, eqb};
 ghost use Rattle.std.specs.Float.{binary32};
 ghost use Rattle.std.specs.Float.Ieee.{nan_bits};
@@ -11,7 +13,7 @@ use level::{Found, Reading};
 use units::Tenths;
 
 // A record: the constants that belong to it, and how one is shown.
-#[derive(Drop)]
+#[derive(Clone, Copy)]
 pub struct Record;
 
 impl Record {
@@ -79,7 +81,7 @@ fn blank(r: &[u8], at: usize, end: usize) -> bool
 // ---- the backgrounds of a record
 
 // The background at each microphone.
-#[derive(Drop)]
+#[derive(Clone, Copy)]
 pub struct Backgrounds {
     pub left: Tenths,
     pub right: Tenths,
@@ -101,7 +103,7 @@ fn backgrounds_in(r: &[u8], left: usize, right: usize) -> Backgrounds
 
 // ---- the vehicle record
 
-#[derive(Drop)]
+#[derive(Clone, Copy)]
 pub struct Vehicle {
     // 1 M1, 2 N1
     pub category: u8,
@@ -179,7 +181,7 @@ pub fn path_of(v: Vehicle) -> u16
 
 // ---- a run record
 
-#[derive(Drop)]
+#[derive(Clone, Copy)]
 pub struct Run {
     // Record::ACCELERATION or Record::CONSTANT_SPEED
     pub kind: u8,
@@ -287,7 +289,7 @@ pub fn run_good(r: &[u8]) -> bool
 
 // ---- the closing record
 
-#[derive(Drop)]
+#[derive(Clone, Copy)]
 pub struct Closing {
     // the number of run records
     pub runs: u16,

@@ -1,9 +1,11 @@
 // The causes of a refusal with their numbers and places, and the answer of an evaluation.
+#![tactic(auto)]
+
 ghost use Rattle.std.specs.Prelude.{◌≡◌};
 ghost use Rattle.refusal.specs.Refusal.{number_of, place_of, answer_number, answer_place};
 
 // Why the runs of a gear and a run kind have no window.
-#[derive(Drop)]
+#[derive(Clone, Copy)]
 pub enum Shortage {
     // fewer than four valid runs
     TooFew,
@@ -12,7 +14,7 @@ pub enum Shortage {
 }
 
 // The causes of a refusal, in the order in which they are checked.
-#[derive(Drop)]
+#[derive(Clone, Copy)]
 pub enum Refusal {
     // 1: the result buffer has less than 32 bytes
     ShortBuffer,
@@ -43,7 +45,7 @@ pub enum Refusal {
 }
 
 // What the caller gets of an evaluation.
-#[derive(Drop)]
+#[derive(Clone, Copy)]
 pub enum Answer {
     Accepted,
     Refused(Refusal),

@@ -1,4 +1,6 @@
 // The result record: its 32 bytes from the fields of an outcome, and the fields read back from it. How the fields come about is not known here.
+#![tactic(auto)]
+
 ghost use Rattle.std.specs.Prelude.{◌≡◌, ◌++◌, ◌≤◌, length, drop};
 ghost use Rattle.urban.specs.Urban.{flag};
 ghost use Rattle.result.specs.Result.{low_byte, high_byte, result_bytes, outcome_in};

@@ -1,4 +1,6 @@
 // A session's gears: from a whole sheet to what becomes of each gear, and the table of those that remain. Which of them are chosen is not decided here.
+#![tactic(auto)]
+
 ghost use Rattle.std.specs.Prelude.{◌≡◌, ◌≤◌};
 ghost use Rattle.sheet.specs.Sheet.{RunsGood, has_acceleration};
 ghost use Rattle.window.specs.Windows.{Each};
@@ -13,7 +15,7 @@ use valid_runs::Condition;
 use window::{Four, Window};
 
 // What a session is evaluated by, beside its runs.
-#[derive(Drop)]
+#[derive(Clone, Copy)]
 pub struct Track {
     // of each side the larger of the two, before and after
     pub backgrounds: Backgrounds,
@@ -38,7 +40,7 @@ impl Track {
 }
 
 // What becomes of a gear.
-#[derive(Drop)]
+#[derive(Clone, Copy)]
 pub enum State {
     // with its acceleration window
     Remains(Gear, Four),
@@ -108,7 +110,7 @@ fn state_of(sheet: &[u8], track: Track, gear: u8, here: bool) -> State
 }
 
 // The lowest gear with acceleration runs and no window, and its shortage, if there is one.
-#[derive(Drop)]
+#[derive(Clone, Copy)]
 pub enum WithoutWindow {
     Gear(u8, Shortage),
     NoGear,
@@ -116,7 +118,7 @@ pub enum WithoutWindow {
 
 // The gears that remain, in rising number, each with its acceleration window: the first `count` of both arrays. If a gear has acceleration runs
 // and no window, the arrays hold the gears below the lowest such gear.
-#[derive(Drop)]
+#[derive(Clone, Copy)]
 pub struct Table {
     pub gears: [Gear; 16],
     pub windows: [Four; 16],

@@ -1,5 +1,7 @@
 // A session's sheet: any byte string examined as one (refusals 2 to 5), and the run records of a whole sheet: which gears have acceleration runs.
 // No level and no speed is read here.
+#![tactic(auto)]
+
 ghost use Rattle.std.specs.Prelude.{◌≡◌, ◌-◌, ◌≤◌, ◌<◌};
 ghost use Rattle.units.specs.Tests.{lowest};
 ghost use Rattle.record.specs.Records.{records};
@@ -9,7 +11,7 @@ use record::{Closing, Record, Vehicle};
 use refusal::Refusal;
 
 // What an examination finds: a whole sheet, or the first refusal.
-#[derive(Drop)]
+#[derive(Clone, Copy)]
 pub enum Examination {
     Whole(Vehicle, Closing),
     Refused(Refusal),

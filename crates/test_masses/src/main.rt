@@ -1,6 +1,8 @@
 // Prints the test mass of each lorry in a file, on a line of its own. In the file, a lorry is six numbers in two bytes each, low byte first: 2 if it
 // has two axles, else 3; the power in tenths of kW; the front load, the rear load and the rear axle's maximum in kg, of the lorry or its stand-in; its
 // own unladen mass in kg, which is not read for two axles.
+#![tactic(auto)]
+
 use libc::STDOUT_FILENO;
 use lorry::{Loading, TwoAxles};
 

@@ -1,14 +1,16 @@
 // The two units of an evaluation, the one rounding, and numbers that stand in bytes.
+#![tactic(auto)]
+
 ghost use Rattle.std.specs.Prelude.{◌≡◌, ◌+◌, ◌<◌, ◌≤◌, length};
 ghost use Rattle.units.specs.Rounding.{rounded};
 ghost use Rattle.units.specs.Bytes.{number};
 
 // A sound level, in tenths of dB(A).
-#[derive(Drop)]
+#[derive(Clone, Copy)]
 pub struct Tenths(pub u16);
 
 // An acceleration, in hundredths of m/s². A type of its own, so that code for gears cannot be handed a level.
-#[derive(Drop)]
+#[derive(Clone, Copy)]
 pub struct Hundredths(pub u16);
 
 // n / d to the nearest whole number, a half going up. Reckoned from the remainder, so that no sum can wrap.

@@ -1,5 +1,7 @@
 // From the chosen gears with their windows to the fields of the result: W, C and a', kp and L_urban (document 01, end of "Gears", and
 // "L_urban"). No sheet is known here.
+#![tactic(auto)]
+
 ghost use Rattle.std.specs.Prelude.{◌≡◌, ◌≤◌, ◌<◌};
 ghost use Rattle.urban.specs.declared.Chosen.TheVariants.{Pair};
 ghost use Rattle.urban.specs.Urban.{Straddled, weighed_level, basis_of, part_power, l_urban_of, outcome_of};
@@ -10,7 +12,7 @@ use units::{Hundredths, Tenths};
 use window::Four;
 
 // A chosen gear with its two windows.
-#[derive(Drop)]
+#[derive(Clone, Copy)]
 pub struct ChosenGear {
     pub gear: Gear,
     pub acceleration_window: Four,
@@ -18,14 +20,14 @@ pub struct ChosenGear {
 }
 
 // What the gear rules decide on, with the windows: the rule, and one gear or gears i and j.
-#[derive(Drop)]
+#[derive(Clone, Copy)]
 pub enum Chosen {
     One(u8, ChosenGear),
     Pair(u8, ChosenGear, ChosenGear),
 }
 
 // What L_urban is reckoned from, alike for one gear and for a pair: W, C and a'.
-#[derive(Drop)]
+#[derive(Clone, Copy)]
 pub struct Basis {
     pub rule: u8,
     pub i: u8,
@@ -98,7 +100,7 @@ pub fn basis_of(reference: Reference, chosen: Chosen) -> Basis
 }
 
 // L_urban in whole dB(A), and the kp it was reckoned with, in hundredths.
-#[derive(Drop)]
+#[derive(Clone, Copy)]
 pub struct LUrban {
     pub kp: u8,
     pub level: u16,
@@ -140,7 +142,7 @@ pub fn l_urban(reference: Reference, a: Hundredths, w: Tenths, c: Tenths) -> LUr
 }
 
 // The fields of the result record, in its order.
-#[derive(Drop)]
+#[derive(Clone, Copy)]
 pub struct Outcome {
     pub rule: u8,
     pub i: u8,

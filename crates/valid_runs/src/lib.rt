@@ -1,4 +1,6 @@
 // Valid runs: the background of each side, the validity rule, and the first window of a condition in a sheet. No acceleration is known here.
+#![tactic(auto)]
+
 ghost use Rattle.std.specs.Prelude.{◌≡◌, true, ◌<◌, take, drop};
 ghost use Rattle.record.specs.Records.{records, record_at, run_good};
 ghost use Rattle.sheet.specs.Sheet.{RunsGood};
@@ -11,7 +13,7 @@ use units::Tenths;
 use window::{ValidRun, Window};
 
 // A gear and a run kind, with the backgrounds of their runs.
-#[derive(Drop)]
+#[derive(Clone, Copy)]
 pub struct Condition {
     pub backgrounds: Backgrounds,
     // Record::ACCELERATION or Record::CONSTANT_SPEED
@@ -19,7 +21,7 @@ pub struct Condition {
     pub gear: u8,
 }
 
-#[derive(Drop)]
+#[derive(Clone, Copy)]
 pub enum Validity {
     Valid(ValidRun),
     NotValid,

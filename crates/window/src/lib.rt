@@ -1,5 +1,7 @@
 // Windows: four neighbouring valid runs that lie close together, the level of a condition, and the search for the first window in a lent slice.
 // Neither a sheet nor an acceleration is known here.
+#![tactic(auto)]
+
 ghost use Rattle.std.specs.Prelude.{◌≡◌, List, [], ◌∷◌, ◌++◌, map, ℕ, ◌+◌, ◌≤◌, max, min, ◌-◌, ◌<◌, length, take};
 ghost use Rattle.window.specs.Extremes.{AreExtremes};
 ghost use Rattle.window.specs.Windows.{spanned, fitting, condition_level, four_at, shortage_of, first_window};
@@ -8,7 +10,7 @@ use refusal::Shortage;
 use units::Tenths;
 
 // A run that counts, with its corrected levels.
-#[derive(Drop)]
+#[derive(Clone, Copy)]
 pub struct ValidRun {
     pub left: Tenths,
     pub right: Tenths,
@@ -32,7 +34,7 @@ pub const EMPTY_RUN: ValidRun = ValidRun {
 };
 
 // Four neighbours among the runs that count.
-#[derive(Drop)]
+#[derive(Clone, Copy)]
 pub struct Four {
     pub a: ValidRun,
     pub b: ValidRun,
@@ -61,7 +63,7 @@ fn greater(a: Tenths, b: Tenths) -> Tenths
 }
 
 // The greatest and the least of the levels read so far.
-#[derive(Drop)]
+#[derive(Clone, Copy)]
 struct Extremes {
     greatest: Tenths,
     least: Tenths,
@@ -145,7 +147,7 @@ pub fn condition_level(f: Four) -> Tenths
 }
 
 // The first window, or none, and why.
-#[derive(Drop)]
+#[derive(Clone, Copy)]
 pub enum Window {
     Runs(Four),
     Nothing(Shortage),

@@ -1,0 +1,9 @@
+-- `units::number32` meets its contract: the sum of the bytes is what `number` adds up. Assumes nothing.
+use native.Mathlib.Omega.{arith}
+use native.Mathlib.Nat.{add_assoc}
+use Rattle.units.specs.Bytes.{number}
+use Rattle.units.proofs.number32.Goals as goal
+
+pub returns : goal.returns
+unfolding number
+returns c = simp add_assoc (omega arith)
