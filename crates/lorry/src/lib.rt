@@ -1,10 +1,12 @@
 // The test mass of lorries, categories N2 and N3 (document 02, wish 13; document 004, annex 3, 2.2.1 and 2.2.7.4): the mass, the load that brings a
 // lorry to it, and the band about it. Nothing is rounded.
+#![tactic(auto)]
+
 ghost use Rattle.std.specs.Prelude.{◌≡◌, ◌+◌, ◌≤◌};
 ghost use Rattle.lorry.specs.TestMass.{kg, driver, target_of, unladen_of, permitted_of, overloaded, is_negative, extra, two_axles_mass, more_axles_mass, masses_of, two_axles_of, more_axles_of, loading_number, loading_place};
 
 // A lorry of two axles, or the stand-in of one of more.
-#[derive(Drop)]
+#[derive(Clone, Copy)]
 pub struct TwoAxles {
     // tenths of kW
     pub power: u16,
@@ -17,15 +19,15 @@ pub struct TwoAxles {
 
 // A mass while it is reckoned, in hundredths of a kg, in which 75% of whole kilograms is whole. The largest, the target of 6,553.5 kW, is
 // 32,767,500.
-#[derive(Drop)]
+#[derive(Clone, Copy)]
 pub struct KgHundredths(pub u32);
 
 // A mass that is given, in ten-thousandths of a kg, in which 95% and 105% of hundredths are whole.
-#[derive(Drop)]
+#[derive(Clone, Copy)]
 pub struct KgTenThousandths(pub u64);
 
 // What is given: the test mass, the load, and the two ends of the band, 95% and 105% of the test mass.
-#[derive(Drop)]
+#[derive(Clone, Copy)]
 pub struct Masses {
     pub mass: KgTenThousandths,
     pub load: KgTenThousandths,
@@ -34,7 +36,7 @@ pub struct Masses {
 }
 
 // How a lorry is loaded for the test.
-#[derive(Drop)]
+#[derive(Clone, Copy)]
 pub enum Loading {
     Reckoned(Masses),
     // 21: unladen, the rear axle carries more than 75% of its maximum

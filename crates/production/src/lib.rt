@@ -1,5 +1,7 @@
 // Production checks (document 02, wish 11; document 001, annex 7, 3): cars of a type come one at a time, each as its L_urban, until it is
 // known whether the type conforms.
+#![tactic(auto)]
+
 ghost use Rattle.std.specs.Prelude.{◌≡◌};
 ghost use Rattle.production.specs.Annex.{meets, reply_number, reply_place};
 ghost use Rattle.production.specs.Stages.{status_at, wanted_at, reply_at, next_stage, start_of, offer_of};
@@ -8,7 +10,7 @@ ghost use Rattle.production.specs.Numbers.{status_number, stage_number, restored
 ghost use Rattle.production.specs.declared.Restored.TheVariants.{At};
 
 // What the cars counted so far have given.
-#[derive(Drop)]
+#[derive(Clone, Copy)]
 pub enum Stage {
     // no car
     NoCar,
@@ -27,14 +29,14 @@ pub enum Stage {
 }
 
 // A check under way or at its end. The limit is in whole dB(A), without the 1 dB that the requirement adds.
-#[derive(Drop)]
+#[derive(Clone, Copy)]
 pub struct Check {
     pub limit: u16,
     pub stage: Stage,
 }
 
 // What is known of the type.
-#[derive(Drop)]
+#[derive(Clone, Copy)]
 pub enum Status {
     Open,
     Conforms,
@@ -42,7 +44,7 @@ pub enum Status {
 }
 
 // The reply to an offered car.
-#[derive(Drop)]
+#[derive(Clone, Copy)]
 pub enum Reply {
     Counted,
     // 20: the verdict was given; the number of cars counted
@@ -50,7 +52,7 @@ pub enum Reply {
 }
 
 // What an offered car gives: the check from then on, and the reply.
-#[derive(Drop)]
+#[derive(Clone, Copy)]
 pub struct Offered {
     pub check: Check,
     pub reply: Reply,
@@ -238,7 +240,7 @@ impl Stage {
 }
 
 // A check made from its limit and the number of its stage.
-#[derive(Drop)]
+#[derive(Clone, Copy)]
 pub enum Restored {
     At(Check),
     // no stage has this number

@@ -1,4 +1,6 @@
 // PMR, and the reference accelerations that follow from it.
+#![tactic(auto)]
+
 use units::Hundredths;
 
 mod starts;
@@ -8,7 +10,7 @@ ghost use Rattle.reference.specs.Reference.{pmr_of, a_urban, a_ref, reference_at
 ghost use Rattle.reference.specs.Place.{Placed};
 
 // What follows from PMR.
-#[derive(Drop)]
+#[derive(Clone, Copy)]
 pub struct Reference {
     // tenths
     pub pmr: u16,
