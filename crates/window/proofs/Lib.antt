@@ -3,5 +3,4 @@ pub mod Shortages
 pub mod Parts
 mod HeldExtremes
 mod Examples
-mod Walking
 pub mod Rising

@@ -1,18 +1,15 @@
 -- Each way to have no window comes exactly on its cause. Assumes nothing.
-use mathlib.Core.Path.{◌≡◌, refl, sym, ap, ◌∙◌}
+use mathlib.Core.Path.{◌≡◌, refl, ap, ◌∙◌}
 use mathlib.Core.Bool.{Bool, true, false}
 use mathlib.Core.List.{List}
-use Prim.Native.Nat.{ℕ, ◌+◌, ◌≤◌, ◌<◌}
+use Prim.Native.Nat.{ℕ, ◌≤◌, ◌<◌}
 use native.Mathlib.Omega.{arith}
 use lib.ListN.{length}
 use lib.Dec.{ltb}
 use borrow.Author.Tests.{lt-ltb, le-ltb, ltb-true, ltb-false}
-use Rattle.refusal.specs.declared.Shortage.{Shortage}
 use Rattle.refusal.specs.declared.Shortage.TheVariants.{TooFew, TooWide}
 use Rattle.window.specs.declared.ValidRun.{ValidRun}
-use Rattle.window.specs.declared.Four.{Four}
-use Rattle.window.specs.declared.Window.{Window}
-use Rattle.window.specs.declared.Window.TheVariants.{Runs, Nothing}
+use Rattle.window.specs.declared.Window.TheVariants.{Nothing}
 use Rattle.window.specs.Windows.{shortage_of, first_window}
 use Rattle.window.specs.Shortages.{NoneFits, OnTheirCauses}
 use Rattle.window.proofs.Searches.{first-is, none_is}

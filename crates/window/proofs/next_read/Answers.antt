@@ -1,0 +1,6 @@
+-- `window::next_read` meets its contract. Assumes nothing.
+use Rattle.window.proofs.HeldExtremes.{next_extremes}
+use Rattle.window.proofs.next_read.Goals as goal
+
+pub returns : goal.returns
+returns c others h = next_extremes others _ _ _ c.greater.ensures c.lesser.ensures h
