@@ -1,0 +1,20 @@
+-- `level::side_of` meets its contract, arm by arm. Assumes nothing.
+use mathlib.Core.Path.{sym, ◌∙◌}
+use Rattle.level.specs.Level.{side_of}
+use Rattle.level.proofs.side_of.Goals as goal
+
+pub returns-then-in_range : goal.returns-then-in_range
+unfolding side_of
+returns-then-in_range c = simp (c.in-Level.is, sym c.in_range.ensures ∙ c.if-in_range.true, sym c.tenths.ensures) c.corrected.ensures
+
+pub returns-else-in_range : goal.returns-else-in_range
+unfolding side_of
+returns-else-in_range c = simp (c.in-Level.is, sym c.in_range.ensures ∙ c.if-in_range.false)
+
+pub returns-in-Overload : goal.returns-in-Overload
+unfolding side_of
+returns-in-Overload c = rw c.in-Overload.is
+
+pub returns-in-Absent : goal.returns-in-Absent
+unfolding side_of
+returns-in-Absent c = rw c.in-Absent.is

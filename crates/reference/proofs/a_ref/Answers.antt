@@ -1,0 +1,16 @@
+-- Below 25.0 it is a_urban, and from there the second table is read as the first is.
+use Rattle.std.proofs.Common.{refl, arith}
+use borrow.Author.Tests.{lt-ltb, le-ltb}
+use Rattle.reference.specs.Reference.{a_ref}
+use Rattle.reference.proofs.Powers.{start, placed_lowest}
+use Rattle.reference.proofs.a_ref.Goals as goal
+
+pub returns-then-q-lt250 : goal.returns-then-q-lt250
+unfolding a_ref
+returns-then-q-lt250 c = rw (lt-ltb _ _ c.if-q-lt250.true) c.a_urban.ensures
+
+pub returns : goal.returns
+unfolding a_ref start
+returns c =
+    rw (le-ltb _ _ c.if-q-lt250.false)
+    (placed_lowest 318 599 601 81 250 6000 _ (record { step = refl; tested = tt; opens = tt; closes = tt }) c.args.q c.place.result c.place.ensures c.if-q-lt250.false c.requires.1 (omega arith))
