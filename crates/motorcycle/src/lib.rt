@@ -56,7 +56,7 @@ fn first_outside(levels: Levels) -> u8
 fn whole(x: f32) -> u16
     requires { T (in_range x) }
     ensures value { result ≡ whole_of x }
-    ensures lower_bound { (20 ≤ result) × (result ≤ 140) }
+    ensures within { (20 ≤ result) × (result ≤ 140) }
 {
     units::whole_decibels(level::tenths(x))
 }

@@ -2,10 +2,8 @@
 use mathlib.Core.Path.{◌≡◌, refl, ◌∙◌}
 use mathlib.Core.Bool.{true, false≢true}
 use lib.Ieee.{Float, nan, inf, fin, binary32, div, of_bits, is_nan}
-use borrow.Author.Rules.{rules}
 use Rattle.level.proofs.Range.{nan_pattern, no_nan}
-use Rattle.motorcycle.proofs.float_of.Statement.{statement}
-use Rattle.motorcycle.proofs.float_of.Tie as tie
+use Rattle.motorcycle.proofs.float_of.Goals as goal
 
 -- there is one NaN
 one_nan : (x : Float) → is_nan x ≡ true → nan ≡ x
@@ -18,14 +16,8 @@ made : div binary32 (of_bits binary32 0) (of_bits binary32 0) ≡ nan
 unfolding div of_bits
 made = refl
 
-returns : tie.Need-returns
-returns c = made ∙ one_nan _ (nan_pattern _ c.if1.true)
+pub returns-then-pattern-gt2139095040 : goal.returns-then-pattern-gt2139095040
+returns-then-pattern-gt2139095040 c = made ∙ one_nan _ (nan_pattern _ c.if-pattern-gt2139095040.true)
 
-float-from-bits-result : tie.Need-float-from-bits-result
-float-from-bits-result c = rw (no_nan _ c.if1.false) tt
-
-returns-2 : tie.Need-returns-2
-returns-2 c = search rules
-
-pub float_of_spec : {M : Type 1} → statement M
-float_of_spec = tie.close (tie.spec returns float-from-bits-result returns-2)
+pub float_from_bits-result : goal.float_from_bits-result
+float_from_bits-result c = rw (no_nan _ c.if-pattern-gt2139095040.false) tt
