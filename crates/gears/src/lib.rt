@@ -17,8 +17,8 @@ fn square(x: u16) -> u32
 
 // A run's acceleration, from its speeds in tenths of km/h and its path in cm.
 pub fn run_acceleration(start: u16, end: u16, path: u16) -> Hundredths
-    requires start_le_end { (start ≤ end) × (end ≤ 1500) }
-    requires le_path { (1000 ≤ path) × (path ≤ 4000) }
+    requires speeds { (start ≤ end) × (end ≤ 1500) }
+    requires path_range { (1000 ≤ path) × (path ≤ 4000) }
     ensures { result.0 ≡ acceleration_of start end path }
 {
     let gained = square(end) - square(start);
