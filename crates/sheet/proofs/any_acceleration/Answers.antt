@@ -13,9 +13,9 @@ pub overflow_sub-last : goal.overflow_sub-last
 unfolding records
 overflow_sub-last c = omega (arith, c.requires.two)
 
-pub next_with-requires-clause-from_le_last : goal.next_with-requires-clause-from_le_last
+pub next_with-requires-clause-record_range : goal.next_with-requires-clause-record_range
 unfolding records
-next_with-requires-clause-from_le_last c = (omega (arith, c.requires.two), omega arith)
+next_with-requires-clause-record_range c = (omega (arith, c.requires.two), omega arith)
 
 pub returns : goal.returns
 unfolding any_acceleration records

@@ -7,8 +7,7 @@ use lib.ListN.{length, get_or, take, drop, set}
 use lib.Seq.{drop-cons, drop-length}
 use borrow.Author.Rules.{rules}
 use Rattle.window.specs.declared.ValidRun.{ValidRun}
-use Rattle.valid_runs.proofs.carry.Statement.{statement}
-use Rattle.valid_runs.proofs.carry.Tie as tie
+use Rattle.valid_runs.proofs.carry.Goals as goal
 
 first_three : (xs : List ValidRun) (a b c : ValidRun) → 2 < length xs → take 3 (set (set (set xs 0 a) 1 b) 2 c) ≡ a ∷ b ∷ c ∷ []
 first_three [] a b c h = absurd (omega arith)
@@ -23,37 +22,7 @@ last_three xs none h =
     (drop-cons xs 14 none (omega arith)
     ∙ ap (λ (l : List ValidRun). get_or xs 14 none ∷ l) (drop-cons xs 15 none (omega arith) ∙ ap (λ (l : List ValidRun). get_or xs 15 none ∷ l) (ap (λ (n : ℕ). drop n xs) (sym h) ∙ drop-length xs)))
 
-array-copy-out-kept : tie.Need-array-copy-out-kept
-array-copy-out-kept c = search rules
-
-array-set-from-kept : tie.Need-array-set-from-kept
-array-set-from-kept c = search rules
-
-array-copy-out-kept-2 : tie.Need-array-copy-out-kept-2
-array-copy-out-kept-2 c = search rules
-
-array-set-from-kept-2 : tie.Need-array-set-from-kept-2
-array-set-from-kept-2 c = search rules
-
-array-copy-out-kept-3 : tie.Need-array-copy-out-kept-3
-array-copy-out-kept-3 c = search rules
-
-array-set-from-kept-3 : tie.Need-array-set-from-kept-3
-array-set-from-kept-3 c = search rules
-
-returns : tie.Need-returns
+pub returns : goal.returns
 returns c =
-    let long : length c.before.before.before.args.t1 ≡ 16 = search rules in
-    first_three c.before.before.before.args.t1 _ _ _ (omega arith) ∙ sym (last_three c.before.before.before.args.t1 _ long)
-
-pub carry_spec : {M : Type 1} → statement M
-carry_spec =
-    tie.close
-    (tie.spec
-    array-copy-out-kept
-    array-set-from-kept
-    array-copy-out-kept-2
-    array-set-from-kept-2
-    array-copy-out-kept-3
-    array-set-from-kept-3
-    returns)
+    let long : length c.args.t1 ≡ 16 = search rules in
+    first_three c.args.t1 _ _ _ (omega arith) ∙ sym (last_three c.args.t1 _ long)
