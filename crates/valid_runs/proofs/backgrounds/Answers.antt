@@ -1,7 +1,6 @@
 -- `valid_runs::backgrounds` meets its contract, side by side. Assumes nothing.
 use mathlib.Core.Path.{ap₂}
 use Prim.Native.Nat.{ℕ}
-use borrow.Author.Rules.{rules}
 use Rattle.valid_runs.specs.ValidRuns.{backgrounds_of}
 use Rattle.valid_runs.proofs.backgrounds.Goals as goal
 

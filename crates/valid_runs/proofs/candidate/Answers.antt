@@ -2,7 +2,6 @@
 use mathlib.Core.Path.{◌≡◌, ap, ◌∙◌}
 use native.Mathlib.Omega.{arith}
 use lib.ListN.{length}
-use borrow.Author.Rules.{rules}
 use Rattle.record.specs.declared.Run.{Run}
 use Rattle.record.specs.Records.{run_good, run_in}
 use Rattle.record.proofs.Shown.{record_long}
@@ -20,11 +19,14 @@ bounds-r-1 c =
     let long : length c.at-r.result.now ≡ 32 = ap length c.at-r.ensures ∙ record_long c.args.sheet.now c.args.number c.requires.0 in
     omega (arith, long)
 
-pub run_in-requires : goal.run_in-requires
-run_in-requires c =
-    let long : length c.at-r.result.now ≡ 32 = ap length c.at-r.ensures ∙ record_long c.args.sheet.now c.args.number c.requires.0 in
-    let good = ap run_good c.at-r.ensures ∙ c.requires.1 in
-    (long, (left_no_nan _ good, right_no_nan _ good))
+pub run_in-requires-clause-long : goal.run_in-requires-clause-long
+run_in-requires-clause-long c = ap length c.at-r.ensures ∙ record_long c.args.sheet.now c.args.number c.requires.0
+
+pub run_in-requires-clause-left_number : goal.run_in-requires-clause-left_number
+run_in-requires-clause-left_number c = left_no_nan _ (ap run_good c.at-r.ensures ∙ c.requires.1)
+
+pub run_in-requires-clause-right_number : goal.run_in-requires-clause-right_number
+run_in-requires-clause-right_number c = right_no_nan _ (ap run_good c.at-r.ensures ∙ c.requires.1)
 
 pub returns-then-r-condition : goal.returns-then-r-condition
 unfolding candidate_of

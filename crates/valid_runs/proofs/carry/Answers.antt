@@ -24,5 +24,5 @@ last_three xs none h =
 
 pub returns : goal.returns
 returns c =
-    let long : length c.args.t1 ≡ 16 = search rules in
-    first_three c.args.t1 _ _ _ (omega arith) ∙ sym (last_three c.args.t1 _ long)
+    let long : length c.args.runs ≡ 16 = search rules in
+    first_three c.args.runs _ _ _ (omega arith) ∙ sym (last_three c.args.runs _ long)

@@ -1,6 +1,5 @@
 -- `valid_runs::valid` meets its contract: a run that is not struck goes by its two sides. Assumes nothing.
 use mathlib.Core.Path.{◌≡◌, sym, ap, ap₂, ◌∙◌}
-use borrow.Author.Rules.{rules}
 use Rattle.level.specs.declared.Reading.{Reading}
 use Rattle.level.specs.Level.{side_of}
 use Rattle.valid_runs.specs.ValidRuns.{both_sides, valid_of}
@@ -16,7 +15,7 @@ returns-in_default c =
     by_sides a.run a.backgrounds a.number c.if-run.false _ _
     (c.side_of-left.ensures ∙ ap (λ (x : Reading). side_of x a.backgrounds.left.0) c.left_reading.ensures)
     (c.side_of-right.ensures ∙ ap (λ (x : Reading). side_of x a.backgrounds.right.0) c.right_reading.ensures) in
-    sym (sides ∙ left_out _ _ _ _ c.enum_told-1.given.1)
+    sym (sides ∙ left_out _ _ _ _ c.in_default.is)
 
 pub returns-in_default-right : goal.returns-in_default-right
 returns-in_default-right c =
@@ -24,7 +23,7 @@ returns-in_default-right c =
     by_sides a.run a.backgrounds a.number c.if-run.false _ _
     (c.side_of-left.ensures ∙ ap (λ (x : Reading). side_of x a.backgrounds.left.0) c.left_reading.ensures)
     (c.side_of-right.ensures ∙ ap (λ (x : Reading). side_of x a.backgrounds.right.0) c.right_reading.ensures) in
-    sym (sides ∙ right_out _ _ _ _ c.enum_told-in_default-right-1.given.1)
+    sym (sides ∙ right_out _ _ _ _ c.in_default-right.is)
 
 pub returns : goal.returns
 unfolding both_sides
@@ -33,4 +32,4 @@ returns c =
     by_sides a.run a.backgrounds a.number c.if-run.false _ _
     (c.side_of-left.ensures ∙ ap (λ (x : Reading). side_of x a.backgrounds.left.0) c.left_reading.ensures)
     (c.side_of-right.ensures ∙ ap (λ (x : Reading). side_of x a.backgrounds.right.0) c.right_reading.ensures) in
-    sym (sides ∙ ap₂ (both_sides _ _) c.left-1.given.1 c.right-1.given.1)
+    sym (sides ∙ ap₂ (both_sides c.args.run c.args.number) c.in-Corrected.is c.in-Corrected-right.is)

@@ -2,150 +2,134 @@
 use mathlib.Core.Path.{◌≡◌, refl, sym, ap, subst, ◌∙◌}
 use mathlib.Core.Bool.{Bool, false, cond}
 use mathlib.Core.List.{List}
-use mathlib.Core.Logic.{⊎_elim}
 use Prim.Native.Nat.{ℕ, ◌+◌, ◌-◌, ◌/◌, ◌≤◌, ◌<◌}
 use native.Mathlib.Omega.{arith}
 use lib.ListN.{length, take, length-set}
 use borrow.Author.Rules.{rules}
 use Rattle.record.specs.Records.{records}
-use Rattle.sheet.proofs.next_with.Reads as next_with_reads
 use Rattle.refusal.specs.declared.Shortage.{Shortage}
 use Rattle.refusal.specs.declared.Shortage.TheVariants.{TooWide}
-use Rattle.window.specs.declared.Window.TheVariants.{Runs, Nothing}
+use Rattle.window.specs.declared.ValidRun.{ValidRun}
+use Rattle.window.specs.declared.Window.TheVariants.{Nothing}
 use Rattle.window.specs.Windows.{first_window}
-use Rattle.window.proofs.window_among.Reads as window_among_reads
 use Rattle.valid_runs.specs.declared.Condition.{Condition}
 use Rattle.valid_runs.specs.ValidRuns.{rest_from, rest_of, window_of}
 use Rattle.valid_runs.proofs.Seeking.{all, Sought, sought_start, sought_valid, sought_other, sought_found, sought_carried, next_range, sought_next, sought_none}
-use Rattle.valid_runs.proofs.window_of.Reads as reads
-use Rattle.valid_runs.proofs.window_of.Lts as lts
-use Rattle.valid_runs.proofs.candidate.Reads as candidate-reads
-use Rattle.valid_runs.proofs.carry.Reads as carry_reads
 use Rattle.valid_runs.proofs.window_of.Goals as goal
+use Rattle.valid_runs.proofs.window_of.Goals.{in-Valid, in_default, then-count-eq16+in_default-window_among, else-count-eq16}
 
--- after record i, which was stored or set aside
-Stored : lts.At-match-branch (next_with_reads.Asked, next_with_reads.Learnt, candidate-reads.Asked, candidate-reads.Learnt, window_among_reads.Asked, window_among_reads.Learnt, carry_reads.Asked, carry_reads.Learnt) reads.Pre reads.Post invariant-loop decreases-loop → Type 0
-Stored m =
-    let a = m.before.before.before.before.before.before.args in
-    (length m.match.runs ≡ 16) × (m.match.count ≤ 16) × Sought a.sheet.now a.condition (length a.sheet.now / 32 - 1) m.match.runs m.match.count m.before.before.before.loop.carried (m.before.before.before.loop.i + 1)
-
-stored : (m : lts.At-match-branch (next_with_reads.Asked, next_with_reads.Learnt, candidate-reads.Asked, candidate-reads.Learnt, window_among_reads.Asked, window_among_reads.Learnt, carry_reads.Asked, carry_reads.Learnt) reads.Pre reads.Post invariant-loop decreases-loop) → Stored m
-unfolding Stored
-stored m =
-    let l = m.before.before.before.loop in
-    let a = m.before.before.before.before.before.before.args in
-    ⊎_elim
-    (λ w. rw (w.3, w.4)
-    (length-set l.runs l.count w.1.given.0.0 ∙ l.invariant.0, omega arith, sought_valid a.sheet.now a.condition _ l.i l.count l.carried l.runs w.1.given.0.0 m.before.before.loop-test.true (omega arith) (sym m.before.candidate.ensures ∙ w.1.given.1) l.invariant.5))
-    (λ w. rw (w.2, w.3)
-    (l.invariant.0, omega arith, sought_other a.sheet.now a.condition _ l.i l.count l.carried l.runs m.before.before.loop-test.true (sym m.before.candidate.ensures ∙ w.1.given.1) l.invariant.5))
-    m.match.branch
+-- The array after a record, which was stored or set aside.
+Stored : List ℕ → Condition → List ValidRun → ℕ → Bool → ℕ → Type 0
+Stored s o runs count carried i = (length runs ≡ 16) × (count ≤ 16) × Sought s o (length s / 32 - 1) runs count carried i
 
 -- all runs before the last record are the rest
 the_rest : (s : List ℕ) (o : Condition) → 2 ≤ records s → first_window (all s o (records s - 1)) ≡ window_of s o
 unfolding window_of rest_of
 the_rest s o two = let runs : records s - 1 - 1 ≡ records s - 2 = omega arith in ap (λ (n : ℕ). first_window (rest_from s o 1 n)) runs
 
--- after what is kept has been searched, if it was full
-Kept : lts.Joined1 (next_with_reads.Asked, next_with_reads.Learnt, candidate-reads.Asked, candidate-reads.Learnt, window_among_reads.Asked, window_among_reads.Learnt, carry_reads.Asked, carry_reads.Learnt) reads.Pre reads.Post invariant-loop decreases-loop → Type 0
-Kept c =
-    let a = c.args in
-    (length c.if-count-eq16.runs ≡ 16) × (c.if-count-eq16.count < 16) × Sought a.sheet.now a.condition (length a.sheet.now / 32 - 1) c.if-count-eq16.runs c.if-count-eq16.count c.if-count-eq16.carried (c.loop-i.i + 1)
-
-kept_on : (c : lts.Joined1 (next_with_reads.Asked, next_with_reads.Learnt, candidate-reads.Asked, candidate-reads.Learnt, window_among_reads.Asked, window_among_reads.Learnt, carry_reads.Asked, carry_reads.Learnt) reads.Pre reads.Post invariant-loop decreases-loop) → Kept c
-unfolding Kept Stored
-kept_on c =
-    let l = c.loop-i in
-    let a = c.args in
-    let s = a.sheet.now in
-    let kept = stored c in
-    ⊎_elim
-    (λ w. rw (w.5, w.6, w.7)
-    (search rules, omega arith, sought_carried s a.condition _ (l.i + 1) l.carried c.match.runs _ w.3.given.0.0 kept.0 (sym w.1.ensures ∙ w.3.given.1) w.4.ensures (subst (λ (n : ℕ). Sought s a.condition (length s / 32 - 1) c.match.runs n l.carried (l.i + 1)) w.0.taken kept.2)))
-    (λ w. rw (w.1, w.2, w.3) (kept.0, omega (arith, kept.1, w.0.left), kept.2))
-    c.if-count-eq16.branch
-
 -- the last search has found none
-none_kept : (w : lts.After-window-among2 (next_with_reads.Asked, next_with_reads.Learnt, candidate-reads.Asked, candidate-reads.Learnt, window_among_reads.Asked, window_among_reads.Learnt, carry_reads.Asked, carry_reads.Learnt) reads.Pre reads.Post invariant-loop decreases-loop) (x : Shortage) → w.window-among2.result ≡ Nothing x → let a = w.before.before.before.before.before.args in Nothing (cond w.before.before.loop.carried TooWide x) ≡ window_of a.sheet.now a.condition
+none_kept : (s : List ℕ) (o : Condition) (i count : ℕ) (carried : Bool) (runs : List ValidRun) (x : Shortage) → 2 ≤ records s → length s / 32 - 1 ≤ i → Nothing x ≡ first_window (take count runs) → Sought s o (length s / 32 - 1) runs count carried i → Nothing (cond carried TooWide x) ≡ window_of s o
 unfolding records
-none_kept w x e =
-    let l = w.before.before.loop in
-    let a = w.before.before.before.before.before.args in
-    let s = a.sheet.now in
-    sought_none s a.condition _ l.i l.count l.carried l.runs x w.before.loop-test.false (sym w.window-among2.ensures ∙ e) l.invariant.5
-    ∙ the_rest s a.condition w.before.before.before.before.before.requires.two
+none_kept s o i count carried runs x two past e g = sought_none s o _ i count carried runs x past (sym e) g ∙ the_rest s o two
 
 pub overflow_sub-last : goal.overflow_sub-last
 unfolding records
 overflow_sub-last c = omega (arith, c.requires.two)
 
-pub next_with-i-requires : goal.next_with-i-requires
+pub next_with-i-requires-clause-record_range : goal.next_with-i-requires-clause-record_range
 unfolding records
-next_with-i-requires c = (omega (arith, c.requires.two), omega arith)
+next_with-i-requires-clause-record_range c = (omega (arith, c.requires.two), omega arith)
 
 pub loop-i-init : goal.loop-i-init
 unfolding records
 loop-i-init c =
-    let a = c.args in
+    let s = c.args.sheet.now in
+    let o = c.args.condition in
     let two = c.requires.two in
     let few = c.requires.few in
-    let r = next_range a.sheet.now a.condition (length a.sheet.now / 32 - 1) 1 (omega arith) in
-    (refl, omega arith, omega (arith, c.next_with-i.ensures, r.0), omega (arith, c.next_with-i.ensures, r.1), omega (arith, c.next_with-i.ensures, r.1), subst (Sought a.sheet.now a.condition (length a.sheet.now / 32 - 1) _ 0 false) (sym c.next_with-i.ensures) (sought_next a.sheet.now a.condition (length a.sheet.now / 32 - 1) 1 0 false _ (omega arith) (sought_start _ _ _ _)))
+    let r = next_range s o (length s / 32 - 1) 1 (omega arith) in
+    let first = c.next_with-i.ensures in
+    (refl, omega arith, omega (arith, first, r.0), omega (arith, first, r.1), omega (arith, first, r.1), subst (Sought s o (length s / 32 - 1) _ 0 false) (sym first) (sought_next s o (length s / 32 - 1) 1 0 false _ (omega arith) (sought_start _ _ _ _)))
 
 pub candidate-found-requires : goal.candidate-found-requires
 unfolding records
-candidate-found-requires c =
-    let i = c.loop-i.i in
-    (omega arith, c.requires.good i (omega arith) (omega arith))
+candidate-found-requires c = (omega arith, c.requires.good c.loop-i.i (omega arith) (omega arith))
 
 pub returns-in-Runs : goal.returns-in-Runs
 unfolding Stored records
 returns-in-Runs c =
-    let a = c.args in
-    let s = a.sheet.now in
+    let s = c.args.sheet.now in
+    let o = c.args.condition in
     let l = c.loop-i in
-    let window : first_window (take 16 c.match-found.runs) ≡ Runs c.f-1.given.0.0 = sym c.window_among.ensures ∙ c.f-1.given.1 in
-    sought_found s a.condition _ (l.i + 1) 16 l.carried c.match-found.runs _ window (subst (λ (n : ℕ). Sought s a.condition (length s / 32 - 1) c.match-found.runs n l.carried (l.i + 1)) c.if-count-eq16.true (stored c).2)
-    ∙ the_rest s a.condition c.requires.two
+    let stored : Stored s o c.match-found.runs c.match-found.count l.carried (l.i + 1) =
+    elim c.match-found.branch [
+      | in-Valid w ↦
+          rw (w.runs-is, w.count-is)
+          (length-set l.runs l.count w.in-Valid.v ∙ l.invariant.0, omega arith, sought_valid s o _ l.i l.count l.carried l.runs w.in-Valid.v c.loop-i-test.true (omega arith) (sym w.in-Valid.ensures) l.invariant.5)
+      | in_default w ↦
+          rw (w.runs-is, w.count-is)
+          (l.invariant.0, omega arith, sought_other s o _ l.i l.count l.carried l.runs c.loop-i-test.true (sym w.in_default.ensures) l.invariant.5)
+    ] in
+    let full : Sought s o (length s / 32 - 1) c.match-found.runs 16 l.carried (l.i + 1) = subst (λ (n : ℕ). Sought s o (length s / 32 - 1) c.match-found.runs n l.carried (l.i + 1)) c.if-count-eq16.true stored.2 in
+    sought_found s o _ (l.i + 1) 16 l.carried c.match-found.runs _ (sym c.in-Runs.ensures) full ∙ the_rest s o c.requires.two
 
-pub next_with-i-requires-in-loop-i : goal.next_with-i-requires-in-loop-i
+pub next_with-i-requires-in-loop-i-clause-record_range : goal.next_with-i-requires-in-loop-i-clause-record_range
 unfolding records
-next_with-i-requires-in-loop-i c = (omega arith, omega arith)
+next_with-i-requires-in-loop-i-clause-record_range c = (omega arith, omega arith)
 
 pub loop-i-smaller : goal.loop-i-smaller
 loop-i-smaller c =
-    let l = c.loop-i in
-    let a = c.args in
-    let r = next_range a.sheet.now a.condition (length a.sheet.now / 32 - 1) (l.i + 1) (omega (arith, c.loop-i-test.true)) in
+    let s = c.args.sheet.now in
+    let r = next_range s c.args.condition (length s / 32 - 1) (c.loop-i.i + 1) (omega (arith, c.loop-i-test.true)) in
     omega (arith, c.next_with-i-in-loop-i.ensures, r.0, c.loop-i-test.true)
 
 pub loop-i-preserved : goal.loop-i-preserved
-unfolding Kept records
+unfolding Stored records
 loop-i-preserved c =
-    let k = kept_on c in
+    let s = c.args.sheet.now in
+    let o = c.args.condition in
     let l = c.loop-i in
-    let a = c.args in
-    let s = a.sheet.now in
     let few = c.requires.few in
     let test = c.loop-i-test.true in
-    let r = next_range s a.condition (length s / 32 - 1) (l.i + 1) (omega arith) in
-    (k.0, k.1, omega (arith, c.next_with-i-in-loop-i.ensures, r.0), omega (arith, c.next_with-i-in-loop-i.ensures, r.1), omega (arith, c.next_with-i-in-loop-i.ensures, r.1), subst (Sought s a.condition (length s / 32 - 1) c.if-count-eq16.runs c.if-count-eq16.count c.if-count-eq16.carried) (sym c.next_with-i-in-loop-i.ensures) (sought_next s a.condition (length s / 32 - 1) (l.i + 1) c.if-count-eq16.count c.if-count-eq16.carried c.if-count-eq16.runs (omega arith) k.2))
+    let stored : Stored s o c.match-found.runs c.match-found.count l.carried (l.i + 1) =
+    elim c.match-found.branch [
+      | in-Valid w ↦
+          rw (w.runs-is, w.count-is)
+          (length-set l.runs l.count w.in-Valid.v ∙ l.invariant.0, omega arith, sought_valid s o _ l.i l.count l.carried l.runs w.in-Valid.v c.loop-i-test.true (omega arith) (sym w.in-Valid.ensures) l.invariant.5)
+      | in_default w ↦
+          rw (w.runs-is, w.count-is)
+          (l.invariant.0, omega arith, sought_other s o _ l.i l.count l.carried l.runs c.loop-i-test.true (sym w.in_default.ensures) l.invariant.5)
+    ] in
+    let kept : (length c.if-count-eq16.runs ≡ 16) × (c.if-count-eq16.count < 16) × Sought s o (length s / 32 - 1) c.if-count-eq16.runs c.if-count-eq16.count c.if-count-eq16.carried (l.i + 1) =
+    elim c.if-count-eq16.branch [
+      | then-count-eq16+in_default-window_among w ↦
+          rw (w.runs-is, w.count-is, w.carried-is)
+          (search rules, omega arith, sought_carried s o _ (l.i + 1) l.carried c.match-found.runs _ _ stored.0 (sym w.in_default-window_among.ensures) w.carry-runs.ensures (subst (λ (n : ℕ). Sought s o (length s / 32 - 1) c.match-found.runs n l.carried (l.i + 1)) w.if-count-eq16.true stored.2))
+      | else-count-eq16 w ↦
+          rw (w.runs-is, w.count-is, w.carried-is)
+          (stored.0, omega (arith, stored.1, w.if-count-eq16.false), stored.2)
+    ] in
+    let next = c.next_with-i-in-loop-i.ensures in
+    let r = next_range s o (length s / 32 - 1) (l.i + 1) (omega arith) in
+    (kept.0, kept.1, omega (arith, next, r.0), omega (arith, next, r.1), omega (arith, next, r.1), subst (Sought s o (length s / 32 - 1) c.if-count-eq16.runs c.if-count-eq16.count c.if-count-eq16.carried) (sym next) (sought_next s o (length s / 32 - 1) (l.i + 1) c.if-count-eq16.count c.if-count-eq16.carried c.if-count-eq16.runs (omega arith) kept.2))
 
 pub returns-in-Runs-window_among : goal.returns-in-Runs-window_among
 unfolding records
 returns-in-Runs-window_among c =
     let l = c.loop-i in
-    let a = c.args in
-    let s = a.sheet.now in
-    sought_found s a.condition _ l.i l.count l.carried l.runs _ (sym c.window_among-2.ensures ∙ c.f-in-Runs-window_among-2-1.given.1) l.invariant.5
-    ∙ the_rest s a.condition c.requires.two
+    sought_found c.args.sheet.now c.args.condition _ l.i l.count l.carried l.runs _ (sym c.in-Runs-window_among.ensures) l.invariant.5
+    ∙ the_rest c.args.sheet.now c.args.condition c.requires.two
 
 pub returns-then-carried : goal.returns-then-carried
 returns-then-carried c =
-    let x = c.shortage-1.given.0.0 in
-    ap (λ (b : Bool). Nothing (cond b TooWide x)) (sym c.if-carried.true) ∙ none_kept c x c.shortage-1.given.1
+    let l = c.loop-i in
+    let x = c.in-Nothing.shortage in
+    ap (λ (b : Bool). Nothing (cond b TooWide x)) (sym c.if-carried.true)
+    ∙ none_kept _ _ l.i l.count l.carried l.runs x c.requires.two c.loop-i-test.false c.in-Nothing.ensures l.invariant.5
 
 pub returns-else-carried : goal.returns-else-carried
 returns-else-carried c =
-    let x = c.shortage-1.given.0.0 in
-    ap (λ (b : Bool). Nothing (cond b TooWide x)) (sym c.if-carried.false) ∙ none_kept c x c.shortage-1.given.1
+    let l = c.loop-i in
+    let x = c.in-Nothing.shortage in
+    ap (λ (b : Bool). Nothing (cond b TooWide x)) (sym c.if-carried.false)
+    ∙ none_kept _ _ l.i l.count l.carried l.runs x c.requires.two c.loop-i-test.false c.in-Nothing.ensures l.invariant.5
