@@ -1,8 +1,8 @@
 /* Reads the sheet that its argument names, and prints L_urban with its verdict, or the refusal, and the line of the
  * evaluation program. In the project's folder:
  *
- *     rt staticlib embed
- *     cc -o example bench/embedding/c/example.c target/staticlib/libembed.a
+ *     (cd crates/embed && rt lib)
+ *     cc -o example bench/embedding/c/example.c crates/embed/out/libembed.a
  *     ./example crates/evaluate/stdin
  */
 #include "ruthimpo.h"

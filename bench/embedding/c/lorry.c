@@ -2,8 +2,8 @@
  * or none, and in whole kg the unladen loads of the front and the rear axle and the rear axle's maximum; for a lorry of more than
  * two axles these are its two-axle stand-in's, and its own unladen mass comes after them. In the project's folder:
  *
- *     rt staticlib embed
- *     cc -o lorry bench/embedding/c/lorry.c target/staticlib/libembed.a
+ *     (cd crates/embed && rt lib)
+ *     cc -o lorry bench/embedding/c/lorry.c crates/embed/out/libembed.a
  *     ./lorry 300.0 4000 3000 11501
  *     ./lorry 300.0 4000 3000 11500 9000
  */

@@ -1,8 +1,8 @@
 /* Prints the mean of the four levels that its arguments are, 1 and 2 left, 3 and 4 right, with its verdict against the limit
  * after them in whole dB, or the refusal. In the project's folder:
  *
- *     rt staticlib embed
- *     cc -o motorcycle bench/embedding/c/motorcycle.c target/staticlib/libembed.a
+ *     (cd crates/embed && rt lib)
+ *     cc -o motorcycle bench/embedding/c/motorcycle.c crates/embed/out/libembed.a
  *     ./motorcycle 80.0 81.0 80.0 80.0 80
  */
 #include "ruthimpo.h"

@@ -1,8 +1,8 @@
 /* Follows a production check. The arguments are the limit and the L_urban of each car, in whole dB; prints the status after each
  * car, or the refusal. In the project's folder:
  *
- *     rt staticlib embed
- *     cc -o production bench/embedding/c/production.c target/staticlib/libembed.a
+ *     (cd crates/embed && rt lib)
+ *     cc -o production bench/embedding/c/production.c crates/embed/out/libembed.a
  *     ./production 72 74 80 70 71
  */
 #include "ruthimpo.h"

@@ -1,9 +1,9 @@
 /* The proved evaluation of pass-by sheets, verdict on motorcycles, production checks and test masses of lorries, for programs in C
  * on x86-64 Linux.
  *
- * `rt staticlib embed` writes target/staticlib/libembed.a. A program links it, and needs nothing else for it:
+ * `rt lib`, in crates/embed, writes crates/embed/out/libembed.a. A program links it, and needs nothing else for it:
  *
- *     cc -Ibench/embedding/c program.c target/staticlib/libembed.a
+ *     cc -Ibench/embedding/c program.c crates/embed/out/libembed.a
  *
  * The archive calls memcpy and memset and no other function, and it can be linked into a shared library too.
  *

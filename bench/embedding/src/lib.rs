@@ -1,5 +1,5 @@
 //! The proved evaluation of pass-by sheets, verdict on motorcycles, production checks and test masses of lorries, for Rust programs
-//! on x86-64 Linux: safe functions over the static library of the crate `embed`, which `rt staticlib embed` writes. The library has
+//! on x86-64 Linux: safe functions over the static library of the crate `embed`, which `rt lib` writes in `crates/embed`. The library has
 //! no state, so any number of threads may call it at once.
 
 use std::fmt;

@@ -61,7 +61,7 @@ fn measure(sheet: &[u8], track: Track, g: Gear, f: Four) -> Measured
 // The gear at a place of the table.
 fn measure_at(sheet: &[u8], track: Track, table: Table, p: usize) -> Measured
     requires runs_good { RunsGood sheet.now }
-    requires p_lt_count { (p < table.count) × (table.count ≤ 16) }
+    requires place_in_table { (p < table.count) × (table.count ≤ 16) }
     ensures { result ≡ measured_at (session_of sheet.now track) (gears_in table) (windows_in table) p }
 {
     let g = table.gears[p];
@@ -96,7 +96,7 @@ fn pair_of(rule: u8, i: Measured, j: Measured) -> Selection
 // Rows 9 and 10: the gear or the pair of the choice, with its windows.
 fn select(sheet: &[u8], track: Track, table: Table, choice: Choice) -> Selection
     requires runs_good { RunsGood sheet.now }
-    requires count_bound { (table.count ≤ 16) × Inside table.count choice }
+    requires choice_inside { (table.count ≤ 16) × Inside table.count choice }
     ensures { result ≡ selected_in (session_of sheet.now track) (gears_in table) (windows_in table) choice }
 {
     match choice {
@@ -133,7 +133,7 @@ fn decide_table(
     table: Table,
 ) -> Decision
     requires runs_good { RunsGood sheet.now }
-    requires count_bound { (table.count ≤ 16) × (length (gears_in table) ≡ table.count) }
+    requires table_sound { (table.count ≤ 16) × (length (gears_in table) ≡ table.count) }
     ensures { result ≡ decide_gears reference limit (session_of sheet.now track) (gears_in table) (windows_in table) }
 {
     let gears = table.gears;
@@ -163,7 +163,7 @@ fn track_of(v: Vehicle, z: Closing) -> Track
 // Rows 6 to 10, for a whole sheet of this PMR, in tenths, and a limit.
 fn decide_whole(sheet: &[u8], track: Track, pmr: u32, limit: u16) -> Decision
     requires runs_good { RunsGood sheet.now }
-    requires le_path { (1000 ≤ track.path) × (track.path ≤ 4000) }
+    requires path_range { (1000 ≤ track.path) × (track.path ≤ 4000) }
     ensures { result ≡ decide_whole (session_of sheet.now track) pmr limit }
 {
     if (pmr < 50) | (6000 < pmr) {

@@ -23,8 +23,8 @@ use lorry::{Loading, TwoAxles};
 use motorcycle::Verdict;
 use production::{Check, Restored};
 
-// Evaluates a sheet. Answers 0 and puts the result record into the first 32 bytes of `result`, or answers the number of the refusal
-// and leaves `result` as it was. The place of the refusal goes to `place`, 0 on success.
+// Evaluates a sheet. Answers 0 and puts the result record into the first 32 bytes of `res`, or answers the number of the refusal
+// and leaves `res` as it was. The place of the refusal goes to `place`, 0 on success.
 #[unsafe(no_mangle)]
 pub extern "C" fn ruthimpo_evaluate(sheet: &[u8], res: &mut [u8], place: &mut usize) -> u32
     ensures code { result ≡ answer_number (answer_of sheet.now (length res.old)) }

@@ -1,6 +1,5 @@
 -- Answers with one number for each missing window, and with two. Assumes nothing.
 use mathlib.Core.Path.{◌≡◌, refl, ap}
-use mathlib.Core.List.{List}
 use Prim.Native.Nat.{ℕ}
 use lib.ListN.{length}
 use Rattle.refusal.specs.declared.Shortage.TheVariants.{TooFew, TooWide}
@@ -10,7 +9,7 @@ use Rattle.refusal.specs.declared.Answer.{Answer}
 use Rattle.refusal.specs.declared.Answer.TheVariants.{Accepted, Refused}
 use Rattle.refusal.specs.Refusal.{number_by, window_numbers, answer_number_by, answer_place}
 use Rattle.evaluation.specs.Answer.{answer_of, buffer_of}
-use Rattle.evaluation.specs.OneNumber.{one_number, Returned, together, KeptButForShortages, ByOneNumber}
+use Rattle.evaluation.specs.OneNumber.{one_number, together, KeptButForShortages, ByOneNumber}
 use Rattle.evaluation.proofs.Rows.{only_on_its_cause, always_on_its_cause}
 
 of_refusal : (r : Refusal) → number_by one_number r ≡ together (number_by window_numbers r)

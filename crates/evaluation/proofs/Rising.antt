@@ -5,7 +5,6 @@ use Prim.Native.Nat.{ℕ, ◌+◌, ◌-◌, ◌≤◌, ◌<◌}
 use native.Mathlib.Omega.{arith}
 use lib.ListN.{length, get_or, drop}
 use Rattle.units.proofs.Among.{listed}
-use Rattle.units.specs.Bytes.{number}
 use Rattle.record.specs.Records.{records}
 use Rattle.sheet.proofs.Examinations.{WholeSheet}
 use Rattle.window.specs.declared.ValidRun.{ValidRun}

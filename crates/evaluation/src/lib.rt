@@ -10,7 +10,7 @@ ghost use Rattle.evaluation.specs.Demand.{CloseTo, RisesFrom};
 use decision::Decision;
 use refusal::{Answer, Refusal};
 
-// The evaluation of a sheet: on success the result stands in the first 32 bytes of `result`; on a refusal no byte changes.
+// The evaluation of a sheet: on success the result stands in the first 32 bytes of `res`; on a refusal no byte changes.
 pub fn evaluate(sheet: &[u8], res: &mut [u8]) -> Answer
     ensures answer { result ≡ answer_of sheet.now (length res.old) }
     ensures buffer { res.new ≡ buffer_of sheet.now res.old }

@@ -38,8 +38,8 @@ fn fields_of(res: &[u8]) -> [u64; 13]
 // The line for an answer and its result buffer, with its line feed, at the front of `out`; answers how many bytes it takes. The bytes behind
 // it stay.
 fn line(answer: Answer, res: &[u8], out: &mut [u8]) -> usize
-    requires in_bounds { 32 ≤ length res.now }
-    requires in_bounds_2 { 276 ≤ length out.old }
+    requires record_long { 32 ≤ length res.now }
+    requires room { 276 ≤ length out.old }
     ensures size { (result ≡ length (line_of answer res.now)) × (result ≤ 276) }
     ensures bytes { out.new ≡ onto (line_of answer res.now) out.old }
 {

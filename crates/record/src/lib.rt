@@ -202,9 +202,9 @@ pub struct Run {
 
 // The run of a record that is known to be good.
 pub fn run_in(r: &[u8]) -> Run
-    requires r_len { length r.now ≡ 32 }
-    requires r_value { nan_bits binary32 (number r.now 8 4) ≡ false }
-    requires r_value_2 { nan_bits binary32 (number r.now 12 4) ≡ false }
+    requires long { length r.now ≡ 32 }
+    requires left_number { nan_bits binary32 (number r.now 8 4) ≡ false }
+    requires right_number { nan_bits binary32 (number r.now 12 4) ≡ false }
     ensures { result ≡ run_in r.now }
 {
     Run {

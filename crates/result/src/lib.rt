@@ -67,7 +67,7 @@ fn result_bytes(o: Outcome) -> [u8; 32]
     ]
 }
 
-// The result record at the front of `result`; the bytes after it stay.
+// The result record at the front of `res`; the bytes after it stay.
 pub fn write(outcome: Outcome, res: &mut [u8])
     requires { 32 ≤ length res.old }
     ensures { res.new ≡ result_bytes outcome ++ drop 32 res.old }

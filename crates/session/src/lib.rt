@@ -59,8 +59,8 @@ fn slow_enough(f: Four, rated: u16) -> bool
 }
 
 fn acceleration(f: Four, path: u16) -> Hundredths
-    requires each { Each NotSlower f }
-    requires le_path { (1000 ≤ path) × (path ≤ 4000) }
+    requires not_slower { Each NotSlower f }
+    requires path_range { (1000 ≤ path) × (path ≤ 4000) }
     ensures { result.0 ≡ gear_acceleration path f }
 {
     let a = gears::run_acceleration(f.a.start, f.a.end, path);
@@ -73,7 +73,7 @@ fn acceleration(f: Four, path: u16) -> Hundredths
 // A gear with an acceleration run, by its acceleration window.
 fn by_window(sheet: &[u8], track: Track, gear: u8) -> State
     requires runs_good { RunsGood sheet.now }
-    requires le_path { (1000 ≤ track.path) × (track.path ≤ 4000) }
+    requires path_range { (1000 ≤ track.path) × (track.path ≤ 4000) }
     ensures { result ≡ by_window track gear (window_in (session_of sheet.now track) 2 gear) }
 {
     match valid_runs::window_of(sheet, track.condition(Record::ACCELERATION, gear)) {
@@ -98,8 +98,8 @@ fn by_window(sheet: &[u8], track: Track, gear: u8) -> State
 // The state of a gear; `here` says whether it has an acceleration run.
 fn state_of(sheet: &[u8], track: Track, gear: u8, here: bool) -> State
     requires runs_good { RunsGood sheet.now }
-    requires le_path { (1000 ≤ track.path) × (track.path ≤ 4000) }
-    requires here_value { here ≡ has_acceleration sheet.now gear }
+    requires path_range { (1000 ≤ track.path) × (track.path ≤ 4000) }
+    requires marked { here ≡ has_acceleration sheet.now gear }
     ensures { result ≡ state_of (session_of sheet.now track) gear }
 {
     if here {
@@ -129,7 +129,7 @@ pub struct Table {
 // The table of a session.
 pub fn table_of(sheet: &[u8], track: Track) -> Table
     requires runs_good { RunsGood sheet.now }
-    requires le_path { (1000 ≤ track.path) × (track.path ≤ 4000) }
+    requires path_range { (1000 ≤ track.path) × (track.path ≤ 4000) }
     ensures { result ≡ table_of (session_of sheet.now track) }
 {
     let seen = sheet::present(sheet);

@@ -16,7 +16,7 @@ use Rattle.record.specs.Records.{records, record_at, byte, word, vehicle_good, v
 use Rattle.record.proofs.VehicleRanges.{vehicle_ranges}
 use Rattle.sheet.specs.declared.Examination.{Examination}
 use Rattle.sheet.specs.declared.Examination.TheVariants.{Whole, Refused}
-use Rattle.sheet.specs.Sheet.{last_of, wrong_size, no_vehicle, no_closing, Layouts, good_by, lowest_broken_by, examined_by, layouts, good_at, lowest_broken, examined, RunsGood}
+use Rattle.sheet.specs.Sheet.{last_of, wrong_size, no_vehicle, no_closing, Layouts, good_by, lowest_broken_by, examined_by, layouts, lowest_broken, examined, RunsGood}
 
 -- ---- the size
 

@@ -2,18 +2,18 @@
 use mathlib.Core.Path.{◌≡◌, refl, sym, ap, ◌∙◌}
 use mathlib.Core.Bool.{Bool, true, false, not}
 use mathlib.Core.List.{List}
-use Prim.Native.Nat.{ℕ, ◌+◌, ◌≤◌, ◌<◌}
+use Prim.Native.Nat.{ℕ, ◌+◌, ◌≤◌}
 use native.Mathlib.Omega.{arith}
 use lib.Dec.{eqb, ltb}
 use borrow.Author.Tests.{eqb-true, eqb-false, ltb-true, ltb-false, not-false}
 use Rattle.units.proofs.Tests.{neither}
-use Rattle.units.proofs.Lowest.{found, lowest_same}
+use Rattle.units.proofs.Lowest.{lowest_same}
 use Rattle.refusal.specs.declared.Refusal.{Refusal}
 use Rattle.refusal.specs.declared.Refusal.TheVariants.{WrongSize, NoVehicle, NoClosing, BrokenRecord}
 use Rattle.record.specs.Records.{records, record_at, byte, word, vehicle_good, closing_good}
-use Rattle.sheet.specs.declared.Examination.TheVariants.{Whole, Refused}
+use Rattle.sheet.specs.declared.Examination.TheVariants.{Refused}
 use Rattle.sheet.specs.Sheet.{last_of, wrong_size, no_vehicle, no_closing, Layouts, good_by, lowest_broken_by, examined_by, layouts, examined}
-use Rattle.sheet.proofs.Examinations.{Sized, sized, at_first_place, at_last_place, at_middle_place, row_2, row_3, row_4, row_5, all_good, closed}
+use Rattle.sheet.proofs.Examinations.{sized, at_first_place, at_last_place, at_middle_place, row_2, row_3, row_4, row_5, all_good, closed}
 
 -- where neither row 3 nor row 4 holds, the first record begins with 1 and the last with 9
 is_vehicle : (s : List ℕ) → no_vehicle s ≡ false → byte (record_at s 0) 0 ≡ 1

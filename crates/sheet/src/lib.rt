@@ -98,8 +98,8 @@ pub fn examine(sheet: &[u8]) -> Examination
 
 // The first record whose byte `at` is `value`, from record `from` on and before record `last`; else `last`.
 pub fn next_with(sheet: &[u8], at: usize, value: u8, from: usize, last: usize) -> usize
-    requires at_bound { at < 32 }
-    requires from_le_last { (from ≤ last) × (last ≤ records sheet.now) }
+    requires byte_place { at < 32 }
+    requires record_range { (from ≤ last) × (last ≤ records sheet.now) }
     ensures { result ≡ lowest (has_byte sheet.now at value) (last - from) from }
 {
     let mut n = from;

@@ -8,8 +8,8 @@ ghost use Rattle.text.specs.Text.{digits_of, line_with, onto};
 // The byte b at `at`, and the place after it.
 fn put(b: u8, out: &mut [u8], at: usize) -> usize
     requires { at < length out.old }
-    ensures value { result ≡ at + 1 }
-    ensures out_after { out.new ≡ set out.old at b }
+    ensures end { result ≡ at + 1 }
+    ensures written { out.new ≡ set out.old at b }
 {
     out[at] = b;
     at + 1
@@ -18,8 +18,8 @@ fn put(b: u8, out: &mut [u8], at: usize) -> usize
 // The bytes of a word at the front of `out`; answers how many.
 fn put_word(word: &[u8], out: &mut [u8]) -> usize
     requires { length word.now ≤ length out.old }
-    ensures value { result ≡ length word.now }
-    ensures out_after { out.new ≡ sets out.old 0 word.now }
+    ensures end { result ≡ length word.now }
+    ensures written { out.new ≡ sets out.old 0 word.now }
 {
     let mut n = 0;
     while n < word.len() {
@@ -32,8 +32,8 @@ fn put_word(word: &[u8], out: &mut [u8]) -> usize
 // The digits of n, the last `most` at the most. Recursive, since the most significant digit goes first.
 fn put_digits(n: u64, most: usize, out: &mut [u8], at: usize) -> usize
     requires { at + most ≤ length out.old }
-    ensures value { (result ≡ at + length (digits_of most n)) × (result ≤ at + most) }
-    ensures out_after { out.new ≡ sets out.old at (digits_of most n) }
+    ensures end { (result ≡ at + length (digits_of most n)) × (result ≤ at + most) }
+    ensures written { out.new ≡ sets out.old at (digits_of most n) }
 {
     if most == 0 {
         at

@@ -17,7 +17,7 @@ use Rattle.record.specs.Records.{record_at, byte, word, run_in, reading_from}
 use Rattle.window.specs.declared.ValidRun.{ValidRun}
 use Rattle.valid_runs.specs.declared.Condition.{Condition}
 use Rattle.valid_runs.specs.declared.Validity.{Validity}
-use Rattle.valid_runs.specs.declared.Validity.TheVariants.{Valid, NotValid}
+use Rattle.valid_runs.specs.declared.Validity.TheVariants.{Valid}
 use Rattle.valid_runs.specs.ValidRuns.{both_sides, valid_of, candidate_of}
 use Rattle.valid_runs.proofs.Validities.{reading_rising}
 

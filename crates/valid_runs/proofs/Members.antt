@@ -6,7 +6,6 @@ use native.Mathlib.Nat.{le_of_suc-le-suc, not-suc-le-zero}
 use native.Mathlib.Numerals.{add-one}
 use native.Mathlib.Omega.{arith}
 use lib.ListN.{length, get_or}
-use Rattle.units.specs.Bytes.{number}
 use Rattle.record.specs.Records.{records, record_at}
 use Rattle.record.proofs.Layouts.{run_ranges}
 use Rattle.sheet.specs.Sheet.{RunsGood}

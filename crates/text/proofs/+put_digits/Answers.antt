@@ -13,12 +13,12 @@ use Rattle.text.proofs.+put_digits.Goals as goal
 pub returns-then-most-eq0 : goal.returns-then-most-eq0
 returns-then-most-eq0 t c =
     let nothing = none c.args.most c.args.n c.if-most-eq0.true in
-    record { value = (rw nothing (omega arith), omega arith); out_after = rw nothing }
+    record { end = (rw nothing (omega arith), omega arith); written = rw nothing }
 
 pub returns-then-n-lt10 : goal.returns-then-n-lt10
 returns-then-n-lt10 t c =
     let digit = one_digit c.args.most c.args.n (omega arith) (omega arith) in
-    record { value = (rw digit (omega arith), omega arith); out_after = rw digit c.put.ensures.out_after }
+    record { end = (rw digit (omega arith), omega arith); written = rw digit c.put.ensures.written }
 
 pub returns-else-n-lt10 : goal.returns-else-n-lt10
 returns-else-n-lt10 t c =
@@ -28,11 +28,11 @@ returns-else-n-lt10 t c =
     let digits = more_digits a.most a.n (omega arith) (omega arith) in
     let inner = c.put_digits-end in
     record {
-      value = (rw (digits, length-append front last) (omega arith), omega arith);
-      out_after =
-          c.put-else-n-lt10.ensures.out_after
-          ∙ ap (λ (d : List ℕ). sets d inner.result last) inner.ensures.out_after
-          ∙ ap (λ (n : ℕ). sets (sets a.out.now a.at front) n last) inner.ensures.value.0
+      end = (rw (digits, length-append front last) (omega arith), omega arith);
+      written =
+          c.put-else-n-lt10.ensures.written
+          ∙ ap (λ (d : List ℕ). sets d inner.result last) inner.ensures.written
+          ∙ ap (λ (n : ℕ). sets (sets a.out.now a.at front) n last) inner.ensures.end.0
           ∙ sym (sets_append a.out.now front last a.at)
           ∙ ap (sets a.out.now a.at) (sym digits);
     }

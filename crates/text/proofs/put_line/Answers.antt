@@ -30,8 +30,8 @@ loop-n-preserved c =
       most = omega arith;
       size = rw (more, length-append (text ++ (32 ∷ [])) number) (omega arith);
       bytes =
-          digits.ensures.out_after
-          ∙ ap (λ (d : List ℕ). sets d space.result number) (space.ensures.out_after ∙ ap (λ (d : List ℕ). sets d l.end (32 ∷ [])) l.invariant.bytes ∙ behind w.new.out text (32 ∷ []) w.result l.end l.invariant.size)
+          digits.ensures.written
+          ∙ ap (λ (d : List ℕ). sets d space.result number) (space.ensures.written ∙ ap (λ (d : List ℕ). sets d l.end (32 ∷ [])) l.invariant.bytes ∙ behind w.new.out text (32 ∷ []) w.result l.end l.invariant.size)
           ∙ behind w.new.out (text ++ (32 ∷ [])) number w.result space.result (omega arith)
           ∙ ap (sets w.new.out w.result) (sym more);
     }
@@ -54,10 +54,10 @@ returns-clause-bytes c =
     let all = all_of [] c.args.numbers.now l.n (omega arith) in
     let last : l.end ≡ w.result + length numbers = rw all at l.invariant.size in
     let size : length text ≡ c.put.result = rw (parted word c.args.numbers.now, length-append word (numbers ++ (10 ∷ [])), length-append numbers (10 ∷ [])) (omega arith) in
-    c.put.ensures.out_after
+    c.put.ensures.written
     ∙ ap (λ (d : List ℕ). sets d l.end (10 ∷ [])) (rw all at l.invariant.bytes)
     ∙ behind w.new.out numbers (10 ∷ []) w.result l.end last
-    ∙ ap (λ (d : List ℕ). sets d w.result (numbers ++ (10 ∷ []))) w.ensures.out_after
+    ∙ ap (λ (d : List ℕ). sets d w.result (numbers ++ (10 ∷ []))) w.ensures.written
     ∙ behind out word (numbers ++ (10 ∷ [])) 0 w.result (omega arith)
     ∙ ap (sets out 0) (sym (parted word c.args.numbers.now))
     ∙ front out text (omega arith)
