@@ -44,6 +44,6 @@ line_of_all sheet input rest n room h split end =
     let size : length (take n sheet) ≡ n = length-take-le n sheet h in
     let whole : length input ≡ n + length rest = ap length split ∙ length-append (take n sheet) rest ∙ ap (λ k. k + length rest) size in
     elim (eq-or-lt_of_le h) as (λ _. line_of_sheet (take n sheet) ≡ line_of_sheet input) [
-      inl full ↦ same_line (take n sheet) input (omega arith) (omega arith)
-    | inr less ↦ ap line_of_sheet (sym (split ∙ ap (λ l. take n sheet ++ l) (end less) ∙ append-nil (take n sheet)))
+      | inl full ↦ same_line (take n sheet) input (omega arith) (omega arith)
+      | inr less ↦ ap line_of_sheet (sym (split ∙ ap (λ l. take n sheet ++ l) (end less) ∙ append-nil (take n sheet)))
     ]
