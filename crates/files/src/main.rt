@@ -12,8 +12,8 @@ use std::rt::Files;
 
 const FILES: u8 = 43;
 
-// A file that the system refuses to read where it is open for writing alone, and to write where it is open for reading alone, as it refuses a
-// descriptor that is closed.
+// Open for writing alone it cannot be read, and open for reading alone it cannot be written: the system refuses both with the error of a closed
+// descriptor.
 const DEVICE: &str = "/dev/null";
 
 // The job on two streams; prints what became of it where no line is printed.
