@@ -17,7 +17,7 @@ use Rattle.gears.specs.declared.Choice.TheVariants as choice
 use Rattle.gears.specs.Rules.{empty_gear, gear_at, a}
 use Rattle.gears.proofs.Choices.{Selectable}
 use Rattle.session.specs.Session.{Session, window_in, gear_acceleration, gears_of, windows_of}
-use Rattle.session.proofs.Entries.{remaining-at, numbers_rise}
+use Rattle.session.proofs.Entries.{remaining_at, numbers_rise}
 use Rattle.urban.specs.declared.ChosenGear.{ChosenGear}
 use Rattle.urban.specs.declared.Chosen.TheVariants.{One, Pair}
 use Rattle.urban.specs.Urban.{a_of}
@@ -72,7 +72,7 @@ module _ (t : Session) where
 
   at_place : (p : ℕ) (h : Four) → p < length (gears_of t) → window_in t 3 (gear p).number ≡ window.Runs h → IsMeasured t (record { gear = gear p; acceleration_window = four p; constant_window = h })
   unfolding gear four gear_at window_at
-  at_place p h l e = let r = remaining-at t empty_gear empty_four p l in record { accelerating = r.window-is; constant = e; acceleration = r.acceleration_is }
+  at_place p h l e = let r = remaining_at t empty_gear empty_four p l in record { accelerating = r.window_is; constant = e; acceleration = r.acceleration_is }
 
   one : (rule p : ℕ) (w : Window) → p < length (gears_of t) → window_in t 3 (gear p).number ≡ w → Measuring t (one_of rule (measured_by (gear p) (four p) w))
   unfolding one_of measured_by

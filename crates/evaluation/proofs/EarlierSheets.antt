@@ -15,7 +15,7 @@ use Rattle.record.specs.declared.Backgrounds.{Backgrounds}
 use Rattle.record.specs.Records.{record_at, zeros, right_good, looked_up, vehicle_tests, vehicle_good, vehicle_in, closing_tests, closing_good, closing_in}
 use Rattle.record.proofs.VehicleRanges.{vehicle_ranges}
 use Rattle.record.proofs.ClosingRanges.{closing_ranges}
-use Rattle.record.proofs.RightBackground.{zero-good, no_right, vehicle_test, closing_test, same_vehicle_tests, same_closing_tests}
+use Rattle.record.proofs.RightBackground.{zero_good, no_right, vehicle_test, closing_test, same_vehicle_tests, same_closing_tests}
 use Rattle.record.proofs.WrittenLimit.{written, same_tests}
 use Rattle.sheet.specs.declared.Examination.{Examination}
 use Rattle.sheet.specs.declared.Examination.TheVariants as examination
@@ -44,9 +44,9 @@ module _ (s : List ℕ) (y : Layouts) (b : Backgrounds) (l : Limit) where
   abbrev Same : Type 0
   Same = WholeSheet s (sheet_vehicle s) (sheet_closing s) → (sheet_backgrounds s ≡ b) × (sheet_limit s ≡ l)
 
-  where-whole : examined s ≡ examined_by y s → Same → decision_of s ≡ decision_over y b l s
+  where_whole : examined s ≡ examined_by y s → Same → decision_of s ≡ decision_over y b l s
   unfolding decision_of decision_over decide_by sheet_vehicle sheet_closing
-  where-whole found h = by (examined s) refl
+  where_whole found h = by (examined s) refl
     where
       by : (x : Examination) → examined s ≡ x → decide_by (sheet_backgrounds s) (sheet_limit s) s (examined s) ≡ decide_by b l s (examined_by y s)
       by (examination.Refused r) e = rw (← found, e) refl
@@ -60,7 +60,7 @@ module _ (s : List ℕ) (y : Layouts) (b : Backgrounds) (l : Limit) where
   unfolding decision_of decision_over decide_by
   kept (broken n e) h = inr (n, ap (decide_by b l s) e)
   kept (refused r e f) h = inl (ap (decide_by (sheet_backgrounds s) (sheet_limit s) s) f ∙ sym (ap (decide_by b l s) e))
-  kept (passed p q e) h = inl (where-whole (sym e) (h p q))
+  kept (passed p q e) h = inl (where_whole (sym e) (h p q))
 
 -- ---- a written limit
 
@@ -77,17 +77,17 @@ unfolding with_written vehicle_good closing_good
 kept_with_written s b l =
     let y = earlier_layouts none_looked_up right_good in
     let found = same_examination layouts y s (λ k. sym (written_layout right_good (record_at s 0) (l k))) (λ k. refl) in
-    answered_by (with_written s) s b (where-whole s y (sheet_backgrounds s) (written_limit s) found (λ w. (refl, same_limit s (l (vehicle_ranges (record_at s 0) w.vehicle).kind))))
+    answered_by (with_written s) s b (where_whole s y (sheet_backgrounds s) (written_limit s) found (λ w. (refl, same_limit s (l (vehicle_ranges (record_at s 0) w.vehicle).kind))))
 
 -- ---- no background of the right side
 
 -- the layouts without that field and those with it say the same of records in which its bytes are zero
 right_vehicle_layout : (unwritten : List ℕ → Bool) (r : List ℕ) → zeros r 18 2 ≡ true → all_of (vehicle_tests unwritten unnamed_good r) ≡ all_of (vehicle_tests unwritten right_good r)
-right_vehicle_layout unwritten r e = ap all_of (same_vehicle_tests unnamed_good right_good r unwritten e (zero-good r 18 e))
+right_vehicle_layout unwritten r e = ap all_of (same_vehicle_tests unnamed_good right_good r unwritten e (zero_good r 18 e))
 
 right_closing_layout : (r : List ℕ) → zeros r 6 2 ≡ true → all_of (closing_tests unnamed_good r) ≡ closing_good r
 unfolding closing_good
-right_closing_layout r e = ap all_of (same_closing_tests unnamed_good right_good r e (zero-good r 6 e))
+right_closing_layout r e = ap all_of (same_closing_tests unnamed_good right_good r e (zero_good r 6 e))
 
 -- the backgrounds of both records are the left's on both sides, and so are the larger ones
 same_backgrounds : (s : List ℕ) → zeros (record_at s 0) 18 2 ≡ true → zeros (record_at s (last_of s)) 6 2 ≡ true → sheet_backgrounds s ≡ one_background s
@@ -100,7 +100,7 @@ kept_without_right s b n =
     let y = earlier_layouts looked_up unnamed_good in
     let found = same_examination layouts y s (λ k. sym (right_vehicle_layout looked_up (record_at s 0) (n.vehicle k))) (λ k. sym (right_closing_layout (record_at s (last_of s)) (n.closing k))) in
     answered_by (with_one s) s b
-    (where-whole s y (one_background s) (sheet_limit s) found
+    (where_whole s y (one_background s) (sheet_limit s) found
     (λ w. (same_backgrounds s (n.vehicle (vehicle_ranges (record_at s 0) w.vehicle).kind) (n.closing (closing_ranges (record_at s (last_of s)) w.closing).kind), refl)))
 
 -- ---- each earlier layout is narrower

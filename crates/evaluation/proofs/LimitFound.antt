@@ -48,7 +48,7 @@ limit_source s o limit d = by (source (sheet_vehicle s) (pmr_in s) limit d.limit
         let r = (vehicle_ranges (record_at s 0) d.sheet.vehicle).category in
         inl (record { by_table = t.zero; m1 = m1 (byte (record_at s 0) 1) r.0 r.1 t.no_n1; is = t.is; range = t.range })
     by (inr t) =
-        let r = (vehicle_ranges (record_at s 0) d.sheet.vehicle).limit t.not-zero in
+        let r = (vehicle_ranges (record_at s 0) d.sheet.vehicle).limit t.not_zero in
         inr (record { is = t.is; range = (omega (arith, r.0, t.is), omega (arith, r.1, t.is)) })
 
 pub all_by_limit : AllByLimit

@@ -91,9 +91,9 @@ module _ (s s' : List ℕ) (only : OnlyLevels s s') (v : Vehicle) (z : Closing) 
   unfolding sheet_closing
   same_closing = closing_of (record_at s (last_of s)) (record_at s' (last_of s)) same_last ∙ ap (λ (n : ℕ). closing_in (record_at s' (n - 1))) (same_records s s' only)
 
-  pub same-track : (sheet_session s).track ≡ (sheet_session s').track
+  pub same_track : (sheet_session s).track ≡ (sheet_session s').track
   unfolding sheet_session sheet_backgrounds
-  same-track = ap₂ (λ (x : Vehicle) (y : Closing). track_of (backgrounds_of x.backgrounds y.backgrounds) x) same_vehicle same_closing
+  same_track = ap₂ (λ (x : Vehicle) (y : Closing). track_of (backgrounds_of x.backgrounds y.backgrounds) x) same_vehicle same_closing
 
   pub same_reference : reference_in s ≡ reference_in s'
   unfolding reference_in pmr_in

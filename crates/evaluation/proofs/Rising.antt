@@ -33,7 +33,7 @@ use Rattle.figure.proofs.Rising.{rising}
 use Rattle.evaluation.specs.Demand.{runs_of, chosen_runs_by, chosen_runs, NoneLower, RisesFrom}
 use Rattle.evaluation.proofs.Accepted.{reported_in}
 use Rattle.evaluation.proofs.SameRuns.{same_list}
-use Rattle.evaluation.proofs.OnlyLevels.{same-track, same_reference, run_rising}
+use Rattle.evaluation.proofs.OnlyLevels.{same_track, same_reference, run_rising}
 
 -- ---- where a window's runs stand among the chosen ones
 
@@ -78,7 +78,7 @@ module _ (s s' : List ℕ) (n : NoneLower s s') (w : WholeSheet s (sheet_vehicle
           run_rising s s' n.only_levels o o' (get_or (chosen_runs s) i 0) v v' (omega (arith, q, m.last, w.two)) same (ap (candidate_of s o) q ∙ m.is) (ap (candidate_of s' o') q' ∙ m'.is) (n.none_lower (get_or (chosen_runs s) i 0) (listed (chosen_runs s) i l))
 
   tracks : (sheet_session s).track ≡ (sheet_session s').track
-  tracks = same-track s s' n.only_levels (sheet_vehicle s) (sheet_closing s) w
+  tracks = same_track s s' n.only_levels (sheet_vehicle s) (sheet_closing s) w
 
   gear_rising :
       (k : ℕ) (g g' : ChosenGear) → IsMeasured (sheet_session s) g → IsMeasured (sheet_session s') g' → GearListedAt (chosen_runs s) k g → GearListedAt (chosen_runs s) k g' → GearNotLower g g'

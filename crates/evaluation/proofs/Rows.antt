@@ -84,8 +84,8 @@ found (r ∷ table) = by r.holds refl (found table)
         all (suc k) = f k
 
 -- a first row does not stand before another
-not-before : (table : List Row) {n p n' p' : ℕ} (f : First table n p) (g : First table n' p') → g.at ≤ f.at
-not-before table f g = by (ltb f.at g.at) refl
+not_before : (table : List Row) {n p n' p' : ℕ} (f : First table n p) (g : First table n' p') → g.at ≤ f.at
+not_before table f g = by (ltb f.at g.at) refl
   where
     by : (b : Bool) → ltb f.at g.at ≡ b → g.at ≤ f.at
     by true e = absurd (true≢false (sym f.holds ∙ g.before f.at (ltb-true f.at g.at e)))
@@ -93,7 +93,7 @@ not-before table f g = by (ltb f.at g.at) refl
 
 once : (table : List Row) {n p n' p' : ℕ} → First table n p → First table n' p' → (n ≡ n') × (p ≡ p')
 once table f g =
-    let same : f.at ≡ g.at = le_antisymm (not-before table g f) (not-before table f g) in
+    let same : f.at ≡ g.at = le_antisymm (not_before table g f) (not_before table f g) in
     (sym f.number ∙ ap (λ (k : ℕ). (get_or table k empty_row).number) same ∙ g.number, sym f.place ∙ ap (λ (k : ℕ). (get_or table k empty_row).place) same ∙ g.place)
 
 -- a row that holds has a number, where one test over the table says so
@@ -182,9 +182,9 @@ module _ (numbers : WindowNumbers) (s : List ℕ) (size : ℕ) where
   unfolding of decide_by sheet_session pmr_in with_limit
   of_whole = limited
 
-  of-examined : of (examined s) ≡ first (drop 1 (rows_by numbers s size))
+  of_examined : of (examined s) ≡ first (drop 1 (rows_by numbers s size))
   unfolding examined_by sheet_vehicle sheet_closing rows_by first
-  of-examined =
+  of_examined =
       step of (wrong_size s) _ _ _ _ (of_refused refusal.WrongSize)
       (step of (no_vehicle s) _ _ _ _ (of_refused refusal.NoVehicle)
       (step of (no_closing s) _ _ _ _ (of_refused (refusal.NoClosing _))
@@ -193,7 +193,7 @@ module _ (numbers : WindowNumbers) (s : List ℕ) (size : ℕ) where
   -- the answer tells the first row that holds
   tells_first : tells numbers (answer_of s size) ≡ first (rows_by numbers s size)
   unfolding answer_of decision_of decision_over of decided tells rows_by first
-  tells_first = step (tells numbers) (ltb size 32) (answer.Refused refusal.ShortBuffer) (answer_by (decide_by (sheet_backgrounds s) (sheet_limit s) s (examined s))) _ _ refl of-examined
+  tells_first = step (tells numbers) (ltb size 32) (answer.Refused refusal.ShortBuffer) (answer_by (decide_by (sheet_backgrounds s) (sheet_limit s) s (examined s))) _ _ refl of_examined
 
   answered : Found (rows_by numbers s size) (tells numbers (answer_of s size))
   answered = rw tells_first (found (rows_by numbers s size))

@@ -50,10 +50,10 @@ every_kept : T (all_of (map kept worked_runs))
 unfolding kept lower float_at lt of_bits records record_at number
 every_kept = tt
 
-kept-among : (n : ℕ) (runs : List ℕ) → T (all_of (map kept runs)) → among n runs ≡ true → T (kept n)
+kept_among : (n : ℕ) (runs : List ℕ) → T (all_of (map kept runs)) → among n runs ≡ true → T (kept n)
 unfolding among
-kept-among n [] t e = absurd (true≢false (sym e))
-kept-among n (m ∷ runs) t e = by (eqb n m) refl e (kept-among n runs (and_r (kept m) (all_of (map kept runs)) t))
+kept_among n [] t e = absurd (true≢false (sym e))
+kept_among n (m ∷ runs) t e = by (eqb n m) refl e (kept_among n runs (and_r (kept m) (all_of (map kept runs)) t))
   where
     by : (b : Bool) → eqb n m ≡ b → (b || among n runs) ≡ true → (among n runs ≡ true → T (kept n)) → T (kept n)
     by true q f others = rw (eqb-true n m q) (and_l (kept m) (all_of (map kept runs)) t)
@@ -70,5 +70,5 @@ louder =
     record {
       only_levels = only;
       same_runs = λ n. ap (among n) (worked_runs_are ∙ sym louder_runs_are);
-      none_lower = λ n e. is_false (lower worked_sheet louder_sheet n) (kept-among n worked_runs every_kept (rw worked_runs_are at e));
+      none_lower = λ n e. is_false (lower worked_sheet louder_sheet n) (kept_among n worked_runs every_kept (rw worked_runs_are at e));
     }

@@ -94,9 +94,9 @@ unfolding rest_from candidate_of rest_in records_from
 rest_from_is s o n zero = refl
 rest_from_is s o n (suc count) = rw (add-one n) (ap (with_valid (candidate_of s o n)) (rest_from_is s o (suc n) count))
 
-rest-is : (s : List ℕ) (o : Condition) → rest_of s o ≡ rest_in o 1 (runs_in s)
+rest_is : (s : List ℕ) (o : Condition) → rest_of s o ≡ rest_in o 1 (runs_in s)
 unfolding rest_of
-rest-is s o = rest_from_is s o 1 (records s - 2) ∙ ap (rest_in o 1) (runs_are s)
+rest_is s o = rest_from_is s o 1 (records s - 2) ∙ ap (rest_in o 1) (runs_are s)
 
 -- ---- the gears
 
@@ -104,14 +104,14 @@ rest-is s o = rest_from_is s o 1 (records s - 2) ∙ ap (rest_in o 1) (runs_are 
 unfoldable pub state_in : Track → List (List ℕ) → ℕ → State
 state_in track rs gear = cond (some_of (accelerates_in gear) rs) (by_window track gear (first_window (rest_in (condition_of track 2 gear) 1 rs))) NoRun
 
-state-is : (t : Session) (gear : ℕ) → state_of t gear ≡ state_in t.track (runs_in t.sheet) gear
+state_is : (t : Session) (gear : ℕ) → state_of t gear ≡ state_in t.track (runs_in t.sheet) gear
 unfolding state_of state_in has_acceleration accelerates_in window_of
-state-is t gear =
+state_is t gear =
     let s = t.sheet in
     let o = condition_of t.track 2 gear in
     let has : has_acceleration s gear ≡ some_of (accelerates_in gear) (runs_in s) =
     some_is s (accelerates_in gear) (records s - 2) 1 ∙ ap (some_of (accelerates_in gear)) (runs_are s) in
-    ap₂ (λ b rest. cond b (by_window t.track gear (first_window rest)) NoRun) has (rest-is s o)
+    ap₂ (λ b rest. cond b (by_window t.track gear (first_window rest)) NoRun) has (rest_is s o)
 
 -- the states of `count` gears from gear p + 1 on
 unfoldable pub states_from : Track → List (List ℕ) → ℕ → ℕ → List State
@@ -126,7 +126,7 @@ lowest_in (x ∷ xs) p = cond (has_no_window x) p (lowest_in xs (suc p))
 lowest_is : (t : Session) (count p : ℕ) → lowest (λ m. has_no_window (state_of t (m + 1))) count p ≡ lowest_in (states_from t.track (runs_in t.sheet) p count) p
 unfolding lowest lowest_in states_from
 lowest_is t zero p = refl
-lowest_is t (suc count) p = rw (← state-is t (p + 1)) (by (has_no_window (state_of t (p + 1))) refl (lowest_is t count (suc p)))
+lowest_is t (suc count) p = rw (← state_is t (p + 1)) (by (has_no_window (state_of t (p + 1))) refl (lowest_is t count (suc p)))
   where
     test : ℕ → Bool
     test m = has_no_window (state_of t (m + 1))
@@ -143,7 +143,7 @@ remaining_in (x ∷ xs) = with_remaining x (remaining_in xs)
 remaining_is : (t : Session) (p count : ℕ) → remaining_from t p count ≡ remaining_in (states_from t.track (runs_in t.sheet) p count)
 unfolding remaining_from remaining_in states_from
 remaining_is t p zero = refl
-remaining_is t p (suc count) = rw (add-one p) (ap₂ with_remaining (state-is t (suc p)) (remaining_is t (suc p) count))
+remaining_is t p (suc count) = rw (add-one p) (ap₂ with_remaining (state_is t (suc p)) (remaining_is t (suc p) count))
 
 -- ---- the decision
 

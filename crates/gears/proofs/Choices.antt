@@ -16,7 +16,7 @@ use Rattle.gears.specs.declared.Gear.{Gear}
 use Rattle.gears.specs.declared.Choice.TheVariants.{One, Pair, Nothing}
 use Rattle.gears.specs.declared.Choice.{Choice}
 use Rattle.gears.specs.Rules.{a, ceiling, Inside, j_of, first_below, one_at, across_of, choice_of, gap, near, nearest}
-use Rattle.gears.proofs.Nearest.{none-near}
+use Rattle.gears.proofs.Nearest.{none_near}
 
 -- ---- rules 3 to 5
 
@@ -124,7 +124,7 @@ module _ (R u : ℕ) (gears : List Gear) where
       less = leb-false R (a gears (j_of R gears)) (j.after (j_of R gears) (omega arith) l)
 
       far : near R (a gears (j_of R gears)) ≡ false
-      far = none-near R gears (omega arith) none (j_of R gears) l
+      far = none_near R gears (omega arith) none (j_of R gears) l
 
       at_ceiling : (x r : ℕ) → x ≡ ceiling → r ≡ 301 → near r x ≡ true
       at_ceiling x r e f = rw (e, f) near-301

@@ -29,7 +29,7 @@ pub record Seen (R : ℕ) (gears : List Gear) (i : ℕ) (b : Best) : Type 0 wher
   pub bound : b.place ≤ length gears
   pub none : b.place ≡ length gears → b.distance.0 ≡ 65535
   pub before : b.place < length gears → b.place < i
-  pub is-near : b.place < length gears → near R (a gears b.place) ≡ true
+  pub is_near : b.place < length gears → near R (a gears b.place) ≡ true
   pub is : b.place < length gears → gap (a gears b.place) R ≡ b.distance.0
   pub least : (k : ℕ) → k < i → near R (a gears k) ≡ true → b.distance.0 ≤ gap (a gears k) R
   pub first : (k : ℕ) → k < i → k < b.place → near R (a gears k) ≡ true → b.distance.0 < gap (a gears k) R
@@ -41,7 +41,7 @@ module _ (R : ℕ) (gears : List Gear) (small : R < 65536) where
         bound = omega arith;
         none = λ h. refl;
         before = λ h. absurd (omega arith);
-        is-near = λ h. absurd (omega arith);
+        is_near = λ h. absurd (omega arith);
         is = λ h. absurd (omega arith);
         least = λ k h. absurd (omega arith);
         first = λ k h. absurd (omega arith);
@@ -62,7 +62,7 @@ module _ (R : ℕ) (gears : List Gear) (small : R < 65536) where
           bound = omega arith;
           none = λ h. absurd (omega arith);
           before = λ h. omega arith;
-          is-near = λ h. n;
+          is_near = λ h. n;
           is = λ h. refl;
           least = up_to (λ k. near R (a gears k) ≡ true → gap (a gears i) R ≤ gap (a gears k) R) i (λ k h m. le_of_lt (lt_of_lt_of_le d (seen.least k h m))) (λ m. le_refl _);
           first = λ k h l m. lt_of_lt_of_le d (seen.least k l m);
@@ -74,7 +74,7 @@ module _ (R : ℕ) (gears : List Gear) (small : R < 65536) where
           bound = seen.bound;
           none = seen.none;
           before = λ h. omega (arith, seen.before h);
-          is-near = seen.is-near;
+          is_near = seen.is_near;
           is = seen.is;
           least = up_to (λ k. near R (a gears k) ≡ true → b.distance.0 ≤ gap (a gears k) R) i seen.least not_nearer;
           first = up_to (λ k. k < b.place → near R (a gears k) ≡ true → b.distance.0 < gap (a gears k) R) i seen.first (λ l m. absurd (never l m));
@@ -114,7 +114,7 @@ module _ (R : ℕ) (gears : List Gear) (small : R < 65536) where
           by : (t : Bool) → ltb b.place (length gears) ≡ t → (near R (a gears k) && eqb (lowest (nearer R gears k) (length gears) 0) (length gears)) ≡ false
           by true f =
               let l = ltb-true b.place (length gears) f in
-              let hit : nearer R gears k b.place ≡ true = simp (seen.is-near l, lt-ltb (gap (a gears b.place) R) (gap (a gears k) R) (omega (arith, seen.is l, distant))) in
+              let hit : nearer R gears k b.place ≡ true = simp (seen.is_near l, lt-ltb (gap (a gears b.place) R) (gap (a gears k) R) (omega (arith, seen.is l, distant))) in
               simp (e, ne_eqb (lowest (nearer R gears k) (length gears) 0) (length gears) (omega (arith, lowest_most (nearer R gears k) (length gears) 0 b.place (omega arith) hit)))
           by false f =
               let end : b.place ≡ length gears = le_antisymm seen.bound (ltb-false b.place (length gears) f) in
@@ -128,7 +128,7 @@ module _ (R : ℕ) (gears : List Gear) (small : R < 65536) where
       best : b.place < length gears → (near R (a gears b.place) && eqb (lowest (nearer R gears b.place) (length gears) 0) (length gears)) ≡ true
       best h =
           let all = lowest_is (nearer R gears b.place) (length gears) 0 (length gears) (record { least = omega arith; most = omega arith; before = λ k l m. none_nearer h k m (near R (a gears k)) refl; passes = λ l. absurd (omega arith) }) in
-          simp (seen.is-near h, eq-eqb (lowest (nearer R gears b.place) (length gears) 0) (length gears) all)
+          simp (seen.is_near h, eq-eqb (lowest (nearer R gears b.place) (length gears) 0) (length gears) all)
 
   -- there is always such a `b`
   seen_upto : (i : ℕ) → i ≤ length gears → (b : Best) × Seen R gears i b
@@ -138,8 +138,8 @@ module _ (R : ℕ) (gears : List Gear) (small : R < 65536) where
       (cond (near R (a gears i) && ltb (gap (a gears i) R) s.0.distance.0) (record { place = i; distance = record { 0 = gap (a gears i) R } }) s.0, rw (add-one i) at (seen_next i s.0 h s.1))
 
   -- rule 2 takes no gear only if none is near
-  pub none-near : length gears ≤ nearest R gears → (k : ℕ) → k < length gears → near R (a gears k) ≡ false
-  none-near h k l = by (near R (a gears k)) refl
+  pub none_near : length gears ≤ nearest R gears → (k : ℕ) → k < length gears → near R (a gears k) ≡ false
+  none_near h k l = by (near R (a gears k)) refl
     where
       s : (b : Best) × Seen R gears (length gears) b
       s = seen_upto (length gears) (le_refl _)

@@ -55,7 +55,7 @@ pub record LookedUp (v : Vehicle) (q n : ℕ) : Type 0 where
 
 -- or it is the written one
 pub record Written (v : Vehicle) (n : ℕ) : Type 0 where
-  pub not-zero : is_looked_up v.limit ≡ false
+  pub not_zero : is_looked_up v.limit ≡ false
   pub is : n ≡ v.limit
 
 module _ (v : Vehicle) (q n : ℕ) where
@@ -80,7 +80,7 @@ module _ (v : Vehicle) (q n : ℕ) where
   source =
       by_test Source (no_limit_for_n1 v) _ _ (λ e k. absurd (let y : ◌≡◌ {A = ℕ} 0 1 = cc in omega arith))
       (λ e. by_test Source (no_limit_entry v) _ _ (λ f k. absurd (let y : ◌≡◌ {A = ℕ} 0 1 = cc in omega arith))
-      (λ f. by_test (λ m. Source (Found m)) (is_looked_up v.limit) _ _ (λ z k. inl (by_table z e f cc)) (λ z k. inr (record { not-zero = z; is = cc }))))
+      (λ f. by_test (λ m. Source (Found m)) (is_looked_up v.limit) _ _ (λ z k. inl (by_table z e f cc)) (λ z k. inr (record { not_zero = z; is = cc }))))
 
 -- a record is the same at both, so both are looked up or both are written
 pub limits_rise : LimitsRise
@@ -90,6 +90,6 @@ limits_rise v q q' n n' h e e' = by (source v q n e) (source v q' n' e')
     by (inl a) (inl b) =
         let p = phase_good v.phase v.low_car a.entry in
         omega (arith, a.is, b.is, table_rises q q' v.phase v.low_car p.0 p.1 h)
-    by (inl a) (inr b) = absurd (true≢false (sym a.zero ∙ b.not-zero))
-    by (inr a) (inl b) = absurd (true≢false (sym b.zero ∙ a.not-zero))
+    by (inl a) (inr b) = absurd (true≢false (sym a.zero ∙ b.not_zero))
+    by (inr a) (inl b) = absurd (true≢false (sym b.zero ∙ a.not_zero))
     by (inr a) (inr b) = omega (arith, a.is, b.is)

@@ -20,8 +20,8 @@ zero_word r at e =
     simp (eqb-true (byte r at) 0 zero.0, eqb-true (byte r (at + 1)) 0 next.0)
 
 -- as a background of the right side they are good, and both sides have the left's
-pub zero-good : (r : List ℕ) (at : ℕ) → zeros r at 2 ≡ true → right_good r at ≡ true
-zero-good r at e = rw (zero_word r at e) refl
+pub zero_good : (r : List ℕ) (at : ℕ) → zeros r at 2 ≡ true → right_good r at ≡ true
+zero_good r at e = rw (zero_word r at e) refl
 
 pub no_right : (r : List ℕ) (left right : ℕ) → zeros r right 2 ≡ true → (backgrounds_in r left right).right ≡ (backgrounds_in r left right).left
 unfolding backgrounds_in

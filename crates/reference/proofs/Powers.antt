@@ -12,7 +12,7 @@ use lib.Ieee.Fits.{and_i, and_l, and_r}
 use borrow.Author.Tests.{ltb-true, ltb-false}
 use Rattle.units.specs.Tests.{lowest}
 use Rattle.units.proofs.Table.{every, at}
-use Rattle.units.proofs.Lowest.{lowest-alone}
+use Rattle.units.proofs.Lowest.{lowest_alone}
 use Rattle.reference.specs.Reference.{between}
 use Rattle.reference.specs.Place.{Placed}
 
@@ -35,17 +35,17 @@ module _ (e from to q : ℕ) where
   unfolding between
   its N t = facts (10 ^ (2 * N + from)) (q ^ e) (q ^ e) (10 ^ (2 * N + to)) t
 
-  not-below : to ≤ from + 2 → (M N : ℕ) → M < N → T (between e from to q M) → T (between e from to q N) → ⊥
-  not-below w M N h s t = lt_irrefl _ (lt_of_lt_of_le (its M s).most (le_trans (pow-le-pow_right (lit< tt) (omega arith)) (its N t).least))
+  not_below : to ≤ from + 2 → (M N : ℕ) → M < N → T (between e from to q M) → T (between e from to q N) → ⊥
+  not_below w M N h s t = lt_irrefl _ (lt_of_lt_of_le (its M s).most (le_trans (pow-le-pow_right (lit< tt) (omega arith)) (its N t).least))
 
   -- no other N has it
   pub between_unique : to ≤ from + 2 → (M N : ℕ) → T (between e from to q M) → T (between e from to q N) → M ≡ N
   between_unique w M N s t =
-      le_antisymm (le_of_suc-le-suc (lt_of_not-le (λ h. not-below w N M h t s))) (le_of_suc-le-suc (lt_of_not-le (λ h. not-below w M N h s t)))
+      le_antisymm (le_of_suc-le-suc (lt_of_not-le (λ h. not_below w N M h t s))) (le_of_suc-le-suc (lt_of_not-le (λ h. not_below w M N h s t)))
 
   -- so `lowest` finds it
-  pub lowest-between : to ≤ from + 2 → (N : ℕ) → T (between e from to q N) → N < 400 → lowest (between e from to q) 400 0 ≡ N
-  lowest-between w N t h = lowest-alone (between e from to q) N t (λ M s. between_unique w M N s t) 400 0 (omega arith) (omega arith)
+  pub lowest_between : to ≤ from + 2 → (N : ℕ) → T (between e from to q N) → N < 400 → lowest (between e from to q) 400 0 ≡ N
+  lowest_between w N t h = lowest_alone (between e from to q) N t (λ M s. between_unique w M N s t) 400 0 (omega arith) (omega arith)
 
 -- ---- a table of starts
 
@@ -95,4 +95,4 @@ module _ (e from to below first last : ℕ) (starts : List ℕ) (table : Starts 
   placed_between lo hi = tests (10 ^ (2 * (below + r) + from)) (q ^ e) (q ^ e) (10 ^ (2 * (below + r) + to)) (lower lo r refl) (upper hi)
 
   pub placed_lowest : first ≤ q → q ≤ last → below + r < 400 → below + r ≡ lowest (between e from to q) 400 0
-  placed_lowest lo hi h = sym (lowest-between e from to q (le_of_eq table.step) (below + r) (placed_between lo hi) h)
+  placed_lowest lo hi h = sym (lowest_between e from to q (le_of_eq table.step) (below + r) (placed_between lo hi) h)

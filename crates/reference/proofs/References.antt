@@ -9,7 +9,7 @@ use lib.Dec.{T, leb, ltb, leb→le, ltb→lt}
 use borrow.Author.Tests.{ltb-true, ltb-false, lt-ltb, le-ltb}
 use Rattle.units.specs.Tests.{lowest}
 use Rattle.reference.specs.Reference.{between, a_urban, a_ref}
-use Rattle.reference.proofs.Powers.{tests, between_unique, lowest-between}
+use Rattle.reference.proofs.Powers.{tests, between_unique, lowest_between}
 
 -- q has an N from `low` to below `top`
 record Has (e from q low top : ℕ) : Type 0 where
@@ -48,7 +48,7 @@ pub record The (e from to q low high r : ℕ) : Type 0 where
 
 the : (e from q low high : ℕ) → high < 400 → Has e from q low (suc high) → The e from (from + 2) q low high (lowest (between e from (from + 2) q) 400 0)
 the e from q low high small h =
-    let is = lowest-between e from (from + 2) q (le_refl (from + 2)) h.N h.holds (omega (arith, h.most)) in
+    let is = lowest_between e from (from + 2) q (le_refl (from + 2)) h.N h.holds (omega (arith, h.most)) in
     rw is (record { holds = h.holds; alone = λ N t. between_unique e from (from + 2) q (le_refl (from + 2)) N h.N t h.holds; least = h.least; most = omega (arith, h.most) })
 
 module _ (q : ℕ) where

@@ -19,7 +19,7 @@ use Rattle.session.specs.Session.{Session, window_in, slow_enough, gear_accelera
 
 -- gear g remains in t with the acceleration window f
 pub record Remaining (t : Session) (g : Gear) (f : Four) : Type 0 where
-  pub window-is : window_in t 2 g.number ≡ window.Runs f
+  pub window_is : window_in t 2 g.number ≡ window.Runs f
   pub acceleration_is : g.acceleration.0 ≡ gear_acceleration t.track.path f
 
 module _ (t : Session) where
@@ -32,7 +32,7 @@ module _ (t : Session) where
       let same : x ≡ f = cc in
       let gear : ◌≡◌ {A = Gear} (record { number = n; acceleration = record { 0 = gear_acceleration t.track.path x } }) g = cc in
       record {
-        window-is = ap (λ (y : Gear). window_in t 2 y.number) (sym gear) ∙ p ∙ ap window.Runs same;
+        window_is = ap (λ (y : Gear). window_in t 2 y.number) (sym gear) ∙ p ∙ ap window.Runs same;
         acceleration_is = ap (λ (y : Gear). y.acceleration.0) (sym gear) ∙ ap (gear_acceleration t.track.path) same;
       })
       (λ b e. absurd (let z : ◌≡◌ {A = ℕ} 0 1 = cc in omega arith))
@@ -58,9 +58,9 @@ module _ (t : Session) where
       by NoRun e j l entries = entries j l
 
   -- the gear and the window at a place belong together
-  pub remaining-at : (g : Gear) (f : Four) (p : ℕ) → p < length (gears_of t) → Remaining t (get_or (gears_of t) p g) (get_or (windows_of t) p f)
+  pub remaining_at : (g : Gear) (f : Four) (p : ℕ) → p < length (gears_of t) → Remaining t (get_or (gears_of t) p g) (get_or (windows_of t) p f)
   unfolding gears_of windows_of remaining
-  remaining-at g f p h =
+  remaining_at g f p h =
       let none : Entry = record { gear = g; window = f } in
       rw (get_or-map (λ (e : Entry). e.gear) (remaining t) p none, get_or-map (λ (e : Entry). e.window) (remaining t) p none)
       (entry none 16 0 p (rw (length-map (remaining t) (λ (e : Entry). e.gear)) at h))

@@ -137,16 +137,16 @@ module _ (s : List ℕ) (v : Vehicle) (z : Closing) (e : examined s ≡ Whole v 
   w : WholeSheet s v z
   w = whole s v z e
 
-  pub runs-good : RunsGood s
-  runs-good = record { two = w.two; few = w.size.few; good = λ n l m. w.runs n l (omega arith) }
+  pub runs_good : RunsGood s
+  runs_good = record { two = w.two; few = w.size.few; good = λ n l m. w.runs n l (omega arith) }
 
   pub mass_positive : 0 < v.mass
   unfolding vehicle_in
   mass_positive = omega (arith, ap (λ (x : Vehicle). x.mass) w.vehicle_is, (vehicle_ranges (record_at s 0) w.vehicle).mass.0)
 
-  pub length-range : (100 ≤ v.length) × (v.length ≤ 2000)
+  pub length_range : (100 ≤ v.length) × (v.length ≤ 2000)
   unfolding vehicle_in
-  length-range =
+  length_range =
       let same = ap (λ (x : Vehicle). x.length) w.vehicle_is in
       let r = (vehicle_ranges (record_at s 0) w.vehicle).«length» in
       (omega arith, omega arith)

@@ -122,8 +122,8 @@ module _ (test : ℕ → Bool) where
   lowest_by_none count n h m l u = (found count n).before m l (omega arith)
 
   -- the number that alone passes is the lowest that does
-  pub lowest-alone : (N : ℕ) → T (test N) → ((M : ℕ) → T (test M) → M ≡ N) → (count n : ℕ) → n ≤ N → N < n + count → lowest test count n ≡ N
-  lowest-alone N t alone count n lo hi =
+  pub lowest_alone : (N : ℕ) → T (test N) → ((M : ℕ) → T (test M) → M ≡ N) → (count n : ℕ) → n ≤ N → N < n + count → lowest test count n ≡ N
+  lowest_alone N t alone count n lo hi =
       alone (lowest test count n) (rw (f.passes (lt_of_le_of_lt (under (leb (lowest test count n) N) refl) hi)) tt)
     where
       f : Lowest count n (lowest test count n)

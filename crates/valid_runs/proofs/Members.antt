@@ -13,7 +13,7 @@ use Rattle.window.specs.declared.ValidRun.{ValidRun}
 use Rattle.window.specs.declared.Four.{Four}
 use Rattle.window.specs.declared.Window.TheVariants.{Runs}
 use Rattle.window.specs.Windows.{Each, empty_run, four_at, first_window}
-use Rattle.window.proofs.Searches.{first-is}
+use Rattle.window.proofs.Searches.{first_is}
 use Rattle.valid_runs.specs.declared.Condition.{Condition}
 use Rattle.valid_runs.specs.declared.Validity.{Validity}
 use Rattle.valid_runs.specs.declared.Validity.TheVariants.{Valid, NotValid}
@@ -57,7 +57,7 @@ module _ (s : List ℕ) (o : Condition) where
 pub each_of : (P : ValidRun → Type 0) (rest : List ValidRun) (f : Four) → ((k : ℕ) → k < length rest → P (get_or rest k empty_run)) → first_window rest ≡ Runs f → Each P f
 unfolding four_at
 each_of P rest f all e =
-    let w = first-is rest f e in
+    let w = first_is rest f e in
     rw w.is (record { a = all w.place (omega (arith, w.inside)); b = all (w.place + 1) (omega (arith, w.inside)); c = all (w.place + 2) (omega (arith, w.inside)); d = all (w.place + 3) w.inside })
 
 -- they are run records of the sheet, of the condition's kind and gear
@@ -74,7 +74,7 @@ pub record InOrder (f : Four) : Type 0 where
 pub window_in_order : (s : List ℕ) (o : Condition) (f : Four) → window_of s o ≡ Runs f → InOrder f
 unfolding window_of rest_of four_at
 window_in_order s o f e =
-    let w = first-is (rest_of s o) f e in
+    let w = first_is (rest_of s o) f e in
     let next = rest_rises s o (records s - 2) 1 in
     let second : w.place + 1 + 1 ≡ w.place + 2 = omega arith in
     let third : w.place + 2 + 1 ≡ w.place + 3 = omega arith in

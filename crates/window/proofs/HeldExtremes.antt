@@ -38,8 +38,8 @@ module _ (levels : List ℕ) (e : Extremes) where
   greatest_is : AreExtremes levels e → Extreme (λ y x. y ≤ x) levels e.greatest.0
   greatest_is h = record { is_read = h.greatest_read; bounds = h.none_above }
 
-  least-is : AreExtremes levels e → Extreme (λ y x. x ≤ y) levels e.least.0
-  least-is h = record { is_read = h.least_read; bounds = h.none_below }
+  least_is : AreExtremes levels e → Extreme (λ y x. x ≤ y) levels e.least.0
+  least_is h = record { is_read = h.least_read; bounds = h.none_below }
 
   both_are : Extreme (λ y x. y ≤ x) levels e.greatest.0 → Extreme (λ y x. x ≤ y) levels e.least.0 → AreExtremes levels e
   both_are g l = record { greatest_read = g.is_read; none_above = g.bounds; least_read = l.is_read; none_below = l.bounds }
@@ -66,7 +66,7 @@ pub next_extremes : (others : List ℕ) (level : ℕ) (held e : Extremes) → e.
 next_extremes others level held e g l h =
     both_are (others ++ level ∷ []) e
     (rw g (further (λ y x. y ≤ x) (λ x y z p q. le_trans p q) others held.greatest.0 level _ (max_cases _ _ _ (λ h q. inr q) (λ h q. inl q)) (omega arith) (omega arith) (greatest_is others held h)))
-    (rw l (further (λ y x. x ≤ y) (λ x y z p q. le_trans q p) others held.least.0 level _ (min_cases _ _ _ (λ h q. inl q) (λ h q. inr q)) (omega arith) (omega arith) (least-is others held h)))
+    (rw l (further (λ y x. x ≤ y) (λ x y z p q. le_trans q p) others held.least.0 level _ (min_cases _ _ _ (λ h q. inl q) (λ h q. inr q)) (omega arith) (omega arith) (least_is others held h)))
 
 -- a list has one pair of extremes
 pub one_pair : (levels : List ℕ) (e e' : Extremes) → AreExtremes levels e → AreExtremes levels e' → (e.greatest.0 ≡ e'.greatest.0) × (e.least.0 ≡ e'.least.0)

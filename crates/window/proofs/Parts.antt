@@ -16,7 +16,7 @@ use Rattle.window.specs.declared.Four.{Four}
 use Rattle.window.specs.declared.Window.{Window}
 use Rattle.window.specs.declared.Window.TheVariants.{Runs, Nothing}
 use Rattle.window.specs.Windows.{fitting, empty_run, four_at, first_place, shortage_of, first_window}
-use Rattle.window.proofs.Searches.{first-is, none_is}
+use Rattle.window.proofs.Searches.{first_is, none_is}
 
 four : ValidRun → ValidRun → ValidRun → ValidRun → Four
 four a b c d = record { a = a; b = b; c = c; d = d }
@@ -78,7 +78,7 @@ skipped ws n h none = by (first_window (drop n ws)) refl
 
     by : (w : Window) → first_window (drop n ws) ≡ w → widened (first_window ws) ≡ widened w
     by (Runs f) e =
-        let w = first-is (drop n ws) f e in
+        let w = first_is (drop n ws) f e in
         let here : four_at ws (n + w.place) ≡ f = sym (four_after ws n w.place) ∙ sym w.is in
         ap widened (first_of ws (n + w.place) (omega (arith, w.inside, long)) (ap fitting here ∙ w.fits) (before w.place w.earliest) ∙ ap Runs here)
     by (Nothing x) e = ap widened (none_of ws (λ i l. before (length ws - n - 3) (λ j k. (none_is (drop n ws) x e).1 j (omega (arith, long))) i (omega arith)))
@@ -86,7 +86,7 @@ skipped ws n h none = by (first_window (drop n ws)) refl
 -- a window of a first part is the first of all
 pub found_in_part : (xs ys : List ValidRun) (f : Four) → first_window xs ≡ Runs f → first_window (xs ++ ys) ≡ Runs f
 found_in_part xs ys f e =
-    let w = first-is xs f e in
+    let w = first_is xs f e in
     let here : four_at (xs ++ ys) w.place ≡ f = four_in xs ys w.place w.inside ∙ sym w.is in
     first_of (xs ++ ys) w.place (omega (arith, w.inside, length-append xs ys)) (ap fitting here ∙ w.fits) (λ i l. ap fitting (four_in xs ys i (omega (arith, w.inside))) ∙ w.earliest i l) ∙ ap Runs here
 

@@ -51,9 +51,9 @@ module _ (rest : List ValidRun) where
   unfolding first_place
   search = found (λ i. fitting (four_at rest i)) (length rest - 3) 0
 
-  pub first-is : (f : Four) → first_window rest ≡ Runs f → FirstFound rest f
+  pub first_is : (f : Four) → first_window rest ≡ Runs f → FirstFound rest f
   unfolding first_window
-  first-is f =
+  first_is f =
       by_test (λ (w : Window). w ≡ Runs f → FirstFound rest f) (ltb (first_place rest) (length rest - 3)) _ _
       (λ t e.
       let inside = ltb-true (first_place rest) (length rest - 3) t in

@@ -12,7 +12,7 @@ use Rattle.window.specs.declared.ValidRun.{ValidRun}
 use Rattle.window.specs.declared.Window.TheVariants.{Nothing}
 use Rattle.window.specs.Windows.{shortage_of, first_window}
 use Rattle.window.specs.Shortages.{NoneFits, OnTheirCauses}
-use Rattle.window.proofs.Searches.{first-is, none_is}
+use Rattle.window.proofs.Searches.{first_is, none_is}
 use Rattle.window.proofs.Parts.{none_of}
 
 few : (count : ℕ) → count < 4 → shortage_of count ≡ TooFew
@@ -46,5 +46,5 @@ module _ (rest : List ValidRun) where
       record {
         too_few = (few_only, no_window);
         too_wide = (wide_only, λ h. none_of rest h.1 ∙ ap Nothing (many (length rest) h.0));
-        few_have_none = λ h f e. omega (arith, (first-is rest f e).inside);
+        few_have_none = λ h f e. omega (arith, (first_is rest f e).inside);
       }

@@ -4,7 +4,7 @@ use mathlib.Core.Bool.{Bool, true, false, cond}
 use Prim.Native.Nat.{ℕ, ◌≤◌}
 use native.Mathlib.Omega.{arith}
 use lib.Dec.{eqb}
-use Rattle.sheet.proofs.Examinations.{length-range, mass_positive, runs-good}
+use Rattle.sheet.proofs.Examinations.{length_range, mass_positive, runs_good}
 use Rattle.valid_runs.specs.ValidRuns.{backgrounds_of}
 use Rattle.reference.specs.Reference.{pmr_of}
 use Rattle.limit.specs.Limits.{limit_of}
@@ -23,15 +23,15 @@ pub pmr-pmr-requires : goal.pmr-pmr-requires
 pmr-pmr-requires c = mass_positive _ _ _ c.requires
 
 pub track_of-requires : goal.track_of-requires
-track_of-requires c = (length-range _ _ _ c.requires).1
+track_of-requires c = (length_range _ _ _ c.requires).1
 
 pub decide_whole-requires-clause-runs_good : goal.decide_whole-requires-clause-runs_good
-decide_whole-requires-clause-runs_good c = runs-good _ _ _ c.requires
+decide_whole-requires-clause-runs_good c = runs_good _ _ _ c.requires
 
 pub decide_whole-requires-clause-path_range : goal.decide_whole-requires-clause-path_range
 unfolding track_of
 decide_whole-requires-clause-path_range c =
-    let l = length-range _ _ _ c.requires in
+    let l = length_range _ _ _ c.requires in
     let r = from_line (eqb c.args.v.start_line 0) in
     let path = ap (λ (t : Track). t.path) c.track_of.ensures in
     (omega arith, omega arith)
