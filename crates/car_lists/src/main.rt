@@ -2,44 +2,42 @@
 // cars and then the L_urban of each, in two bytes each, low byte first.
 #![tactic(auto)]
 
-use libc::STDOUT_FILENO;
 use production::{Check, Status};
+use std::fs::File;
+use std::io;
+use std::io::Read;
 
-fn print_status(status: Status) -> bool {
+fn word_of(status: Status) -> &'static str {
     match status {
-        Status::Open => io::write_all(STDOUT_FILENO, b"OPEN "),
-        Status::Conforms => io::write_all(STDOUT_FILENO, b"CONFORMS "),
-        Status::DoesNotConform => io::write_all(STDOUT_FILENO, b"DOES-NOT-CONFORM "),
+        Status::Open => "OPEN",
+        Status::Conforms => "CONFORMS",
+        Status::DoesNotConform => "DOES-NOT-CONFORM",
     }
 }
 
 // The status and the number of cars still wanted.
-fn print_check(check: Check) {
-    print_status(check.status());
-    io::print_decimal(STDOUT_FILENO, check.wanted() as u64);
+fn print_check(rt: &impl Print, check: Check) -> io::Result<()> {
+    print!(rt; "{} {}", word_of(check.status()), check.wanted())
 }
 
 // The number and the place of the refusal of a list's last car, where it is refused.
-fn print_refusal(number: u8, place: usize) {
+fn print_refusal(rt: &impl Print, number: u8, place: usize) -> io::Result<()> {
     if number == 0 {
-        return;
+        return Ok(());
     }
-    io::write_all(STDOUT_FILENO, b" REFUSED ");
-    io::print_decimal(STDOUT_FILENO, number as u64);
-    io::write_all(STDOUT_FILENO, b" ");
-    io::print_decimal(STDOUT_FILENO, place as u64);
+    print!(rt; " REFUSED {number} {place}")
 }
 
 // Offers the next cars of the file, each to the check that the one before it gave back, and prints what is known after the last. A list that
 // the file cuts short has no line.
-fn print_after(fd: i32, limit: u16, count: u16) {
+fn print_after(rt: &impl Print, file: &mut impl Read, limit: u16, count: u16) -> io::Result<()> {
     let mut check = Check::start(limit);
     let mut number = 0u8;
     let mut place = 0usize;
     for _ in 0..count {
         let mut bytes = [0u8; 2];
-        if io::read_full(fd, &mut bytes) < 2 {
-            return;
+        if file.read_exact(&mut bytes).is_err() {
+            return Ok(());
         }
         let offered = check.offer(units::number16(&bytes, 0));
         let reply = offered.reply;
@@ -47,37 +45,40 @@ fn print_after(fd: i32, limit: u16, count: u16) {
         number = reply.number();
         place = reply.place();
     }
-    print_check(check);
-    print_refusal(number, place);
-    io::write_all(STDOUT_FILENO, b"\n");
+    print_check(rt, check)?;
+    print_refusal(rt, number, place)?;
+    println!(rt)
 }
 
 // Prints the line of the next list; answers whether there was one.
-fn print_next(fd: i32) -> bool {
+fn print_next(rt: &impl Print, file: &mut impl Read) -> io::Result<bool> {
     let mut bytes = [0u8; 4];
-    if io::read_full(fd, &mut bytes) < 4 {
-        return false;
+    if file.read_exact(&mut bytes).is_err() {
+        return Ok(false);
     }
-    print_after(fd, units::number16(&bytes, 0), units::number16(&bytes, 2));
-    true
+    print_after(
+        rt,
+        file,
+        units::number16(&bytes, 0),
+        units::number16(&bytes, 2),
+    )?;
+    Ok(true)
 }
 
 // The turns are counted, since a proved loop ends and nothing says that a file does.
-fn print_all(fd: i32) {
+fn print_all(rt: &impl Print, file: &mut impl Read) -> io::Result<()> {
     for _ in 0..u32::MAX {
-        if !print_next(fd) {
-            return;
+        if !print_next(rt, file)? {
+            break;
         }
     }
+    Ok(())
 }
 
-fn main() {
-    let path = b"lists.bin";
-    let fd = os::open_read(path);
-    if fd < 0 {
-        os::fail(path);
-        return;
+fn main(rt: HostRuntime) -> io::Result<()> {
+    let path = "lists.bin";
+    match File::open(&rt, path) {
+        Ok(mut file) => print_all(&rt, &mut file),
+        Err(error) => eprintln!(rt; "{path}: {error}"),
     }
-    print_all(fd);
-    libc::close(fd);
 }

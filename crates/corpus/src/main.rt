@@ -2,63 +2,66 @@
 // four bytes, low byte first; the length 0xffffffff ends the file.
 #![tactic(auto)]
 
-use libc::STDOUT_FILENO;
 use program::Transfer;
+use std::fs::File;
+use std::io;
+use std::io::Read;
+use std::rt::Files;
 
 // Room for the longest sheet of the file; some are over the limit of a sheet.
 const LONGEST: usize = 65536;
 
 // The next length, or a number above LONGEST where the file ends.
-fn read_length(fd: i32) -> usize {
+fn read_length(file: &mut impl Read) -> usize {
     let mut four = [0u8; 4];
-    if io::read_full(fd, &mut four) < 4 {
+    if file.read_exact(&mut four).is_err() {
         return LONGEST + 1;
     }
     units::number32(&four, 0) as usize
 }
 
-// Prints the line of a sheet; answers whether it was written.
-fn print_line(sheet: &[u8]) -> bool {
+// Prints the line of a sheet.
+fn print_line(rt: &impl Print, sheet: &[u8]) -> io::Result<()> {
     let mut line = [0u8; program::LINE_ROOM];
-    match program::print_line(sheet, &mut line, STDOUT_FILENO) {
-        Transfer::Bytes(_) => true,
-        Transfer::Failed => false,
+    match program::print_line(sheet, &mut line, &mut io::writer(rt)) {
+        Transfer::Bytes(_) => Ok(()),
+        Transfer::Failed(error) => Err(error),
     }
 }
 
-// Prints the line of the next sheet; answers whether to go on.
-fn print_next(fd: i32) -> bool {
-    let length = read_length(fd);
+// Prints the line of the next sheet; answers whether there was one.
+fn print_next(rt: &impl Print, file: &mut impl Read) -> io::Result<bool> {
+    let length = read_length(file);
     if length > LONGEST {
-        return false;
+        return Ok(false);
     }
-    let mut sheet = io::large_buffer();
-    if io::read_full(fd, &mut sheet[..length]) < length {
-        return false;
+    let mut sheet = [0u8; LONGEST];
+    if file.read_exact(&mut sheet[..length]).is_err() {
+        return Ok(false);
     }
-    print_line(&sheet[..length])
+    print_line(rt, &sheet[..length])?;
+    Ok(true)
 }
 
-// The turns are counted down, since a proved loop ends and nothing says that a file does.
-fn print_all(fd: i32) {
-    let mut turns = u32::MAX;
-    while turns > 0 && print_next(fd) {
-        turns -= 1;
+// The turns are counted, since a proved loop ends and nothing says that a file does.
+fn print_all(rt: &impl Print, file: &mut impl Read) -> io::Result<()> {
+    for _ in 0..u32::MAX {
+        if !print_next(rt, file)? {
+            break;
+        }
     }
+    Ok(())
 }
 
 // Prints the line of each sheet of a file. A file that ends early gives fewer lines.
-fn print_sheets(path: &[u8]) {
-    let fd = os::open_read(path);
-    if fd < 0 {
-        os::fail(path);
-        return;
+fn print_sheets(rt: &(impl Files + Print + Eprint), path: &str) -> io::Result<()> {
+    match File::open(rt, path) {
+        Ok(mut file) => print_all(rt, &mut file),
+        Err(error) => eprintln!(rt; "{path}: {error}"),
     }
-    print_all(fd);
-    libc::close(fd);
 }
 
-fn main() {
-    print_sheets(b"examples.bin");
-    print_sheets(b"sheets.bin");
+fn main(rt: HostRuntime) -> io::Result<()> {
+    print_sheets(&rt, "examples.bin")?;
+    print_sheets(&rt, "sheets.bin")
 }

@@ -1,30 +1,41 @@
 // Evaluates the sheet on standard input and prints its line on standard output. What keeps it from that goes to standard error.
 #![tactic(auto)]
 
-use libc::{STDERR_FILENO, STDIN_FILENO, STDOUT_FILENO};
 use program::Ending;
+use std::env::{Env, FillError};
+use std::io;
+use std::io::{Eprint, Input, Print};
 
-fn evaluate_input() {
+// What failed and why. If standard error cannot be written either, there is nowhere left to say so.
+fn report(rt: &impl Eprint, what: &str, error: io::Error) {
+    let _ = eprintln!(rt; "{what}: {error}");
+}
+
+fn evaluate_input(rt: &(impl Input + Print + Eprint)) {
     let mut sheet = [0u8; program::SHEET_ROOM];
     let mut line = [0u8; program::LINE_ROOM];
-    match program::run(STDIN_FILENO, STDOUT_FILENO, &mut sheet, &mut line) {
+    let mut input = rt.reader();
+    let mut output = io::writer(rt);
+    match program::run(&mut input, &mut output, &mut sheet, &mut line) {
         Ending::Printed {
             read: _,
             written: _,
         } => {}
-        Ending::NotRead => os::fail(b"read"),
-        Ending::NotWritten { read: _ } => os::fail(b"write"),
+        Ending::NotRead { error } => report(rt, "read", error),
+        Ending::NotWritten { read: _, error } => report(rt, "write", error),
     }
 }
 
-fn main() {
-    // The first argument is the program's own name.
-    if os::arg_count() > 1 {
-        io::write_all(
-            STDERR_FILENO,
-            b"evaluate: takes no file name and no option; give it the sheet on standard input: evaluate < SHEET\n",
-        );
+// Whether there is a word on the command line. The first argument is the program's own name.
+fn has_word(rt: &impl Env) -> bool {
+    let mut start = [0u8; 1];
+    !matches!(rt.arg(1, &mut start), Err(FillError::NotPresent))
+}
+
+fn main(rt: HostRuntime) {
+    if has_word(&rt) {
+        let _ = eprintln!(rt; "evaluate: takes no file name and no option; give it the sheet on standard input: evaluate < SHEET");
         return;
     }
-    evaluate_input();
+    evaluate_input(&rt);
 }

@@ -8,7 +8,7 @@ ghost use Rattle.level.specs.Reading.{reading_of};
 ghost use Rattle.every_level.specs.Walking.{tenths_read, tenths_found, spacing, reached};
 
 use level::{Found, Reading};
-use libc::STDOUT_FILENO;
+use std::io;
 
 // The pattern of 20.0, and 20.0 and 140.0 as numbers of 2^-19.
 const LOWEST_PATTERN: u32 = 0x41a0_0000;
@@ -157,55 +157,44 @@ fn walk_to(from: Walk, end: u32) -> Part
     Part { walk, tally }
 }
 
-fn print_number(n: u64) {
-    io::write_all(STDOUT_FILENO, b" ");
-    io::print_decimal(STDOUT_FILENO, n);
-}
-
-fn print_tally(level: u32, t: Tally) {
-    io::write_all(STDOUT_FILENO, b"from");
-    print_number(level as u64);
-    print_number(t.count);
-    print_number(t.differ);
-    print_number(t.sum);
-    print_number(t.sums);
-    io::write_all(STDOUT_FILENO, b"\n");
+fn print_tally(rt: &impl Print, level: u32, t: Tally) -> io::Result<()> {
+    println!(rt;
+        "from {level} {} {} {} {}",
+        t.count, t.differ, t.sum, t.sums
+    )
 }
 
 // A pattern and its tenths, 0 if it is no level.
-fn print_pattern(pattern: u32) {
-    let four = bytes_of(pattern);
-    io::write_all(STDOUT_FILENO, b"pattern");
-    print_number(pattern as u64);
-    print_number(tenths_of(&four) as u64);
-    io::write_all(STDOUT_FILENO, b"\n");
+fn print_pattern(rt: &impl Print, pattern: u32) -> io::Result<()> {
+    let tenths = tenths_of(&bytes_of(pattern));
+    println!(rt; "pattern {pattern} {tenths}")
 }
 
 // The ends of the range and the floats outside of it, infinities, NaNs, zeros, the smallest floats and negative levels.
-fn print_patterns() {
-    print_pattern(0x419f_ffff);
-    print_pattern(0x41a0_0000);
-    print_pattern(0x430c_0000);
-    print_pattern(0x430c_0001);
-    print_pattern(0x7f7f_ffff);
-    print_pattern(0x7f80_0000);
-    print_pattern(0xff80_0000);
-    print_pattern(0x7f80_0001);
-    print_pattern(0x7fc0_0000);
-    print_pattern(0x7fff_ffff);
-    print_pattern(0xffc0_0000);
-    print_pattern(0xffff_ffff);
-    print_pattern(0x0000_0000);
-    print_pattern(0x8000_0000);
-    print_pattern(0x0000_0001);
-    print_pattern(0x0080_0000);
-    print_pattern(0xc1a0_0000);
-    print_pattern(0xc2a0_0000);
-    print_pattern(0xc30c_0000);
+fn print_patterns(rt: &impl Print) -> io::Result<()> {
+    print_pattern(rt, 0x419f_ffff)?;
+    print_pattern(rt, 0x41a0_0000)?;
+    print_pattern(rt, 0x430c_0000)?;
+    print_pattern(rt, 0x430c_0001)?;
+    print_pattern(rt, 0x7f7f_ffff)?;
+    print_pattern(rt, 0x7f80_0000)?;
+    print_pattern(rt, 0xff80_0000)?;
+    print_pattern(rt, 0x7f80_0001)?;
+    print_pattern(rt, 0x7fc0_0000)?;
+    print_pattern(rt, 0x7fff_ffff)?;
+    print_pattern(rt, 0xffc0_0000)?;
+    print_pattern(rt, 0xffff_ffff)?;
+    print_pattern(rt, 0x0000_0000)?;
+    print_pattern(rt, 0x8000_0000)?;
+    print_pattern(rt, 0x0000_0001)?;
+    print_pattern(rt, 0x0080_0000)?;
+    print_pattern(rt, 0xc1a0_0000)?;
+    print_pattern(rt, 0xc2a0_0000)?;
+    print_pattern(rt, 0xc30c_0000)
 }
 
 // Each ten decibels from 20.0 to before 140.0, and where the walk stands then.
-fn print_decades() -> Walk {
+fn print_decades(rt: &impl Print) -> io::Result<Walk> {
     let mut walk = Walk {
         pattern: LOWEST_PATTERN,
         value: LOWEST,
@@ -214,17 +203,17 @@ fn print_decades() -> Walk {
     let mut decade: u32 = 2;
     while decade < 14 {
         let part = walk_to(walk, (decade + 1) * TEN);
-        print_tally(10 * decade, part.tally);
+        print_tally(rt, 10 * decade, part.tally)?;
         let reached = part.walk;
         walk = reached;
         decade += 1;
     }
-    walk
+    Ok(walk)
 }
 
-fn main() {
-    let walk = print_decades();
+fn main(rt: HostRuntime) -> io::Result<()> {
+    let walk = print_decades(&rt)?;
     let last = walk_to(walk, HIGHEST + 1);
-    print_tally(140, last.tally);
-    print_patterns();
+    print_tally(&rt, 140, last.tally)?;
+    print_patterns(&rt)
 }

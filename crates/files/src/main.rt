@@ -1,67 +1,73 @@
-// Does the evaluation program's job on each file of data/, opened by name, and on descriptors that cannot be read or written. It prints the
-// file's name before its line, or what became of the job. `data/contents.txt` says what each file holds.
+// Does the evaluation program's job on each file of data/, opened by name, and on files that cannot be read or written. It prints the file's
+// name before its line, or what became of the job. `data/contents.txt` says what each file holds.
 #![tactic(auto)]
 
-use libc::STDOUT_FILENO;
+ghost use Rattle.std.specs.Str.{IsAscii};
+
 use program::Ending;
+use std::fs::{File, OpenOptions};
+use std::io;
+use std::io::{Read, Write};
+use std::rt::Files;
 
 const FILES: u8 = 43;
 
-// A descriptor that is never open.
-const CLOSED: i32 = -1;
+// Open for writing alone it cannot be read, and open for reading alone it cannot be written: the system refuses both with the error of a closed
+// descriptor.
+const DEVICE: &str = "/dev/null";
 
-fn print(text: &[u8]) {
-    io::write_all(STDOUT_FILENO, text);
-}
-
-// The job on two descriptors; prints what became of it where no line is printed.
-fn run(input: i32, output: i32) {
+// The job on two streams; prints what became of it where no line is printed.
+fn run<R: Read, W: Write>(rt: &impl Print, input: &mut R, output: &mut W) -> io::Result<()> {
     let mut sheet = [0u8; program::SHEET_ROOM];
     let mut line = [0u8; program::LINE_ROOM];
     match program::run(input, output, &mut sheet, &mut line) {
         Ending::Printed {
             read: _,
             written: _,
-        } => {}
-        Ending::NotRead => print(b"NOT READ\n"),
-        Ending::NotWritten { read: _ } => print(b"NOT WRITTEN\n"),
+        } => Ok(()),
+        Ending::NotRead { error: _ } => println!(rt; "NOT READ"),
+        Ending::NotWritten { read: _, error: _ } => println!(rt; "NOT WRITTEN"),
     }
 }
 
-fn run_file(name: &[u8], output: i32) {
-    print(name);
-    print(b" ");
-    let fd = os::open_read(name);
-    if fd < 0 {
-        os::fail(name);
-        return;
+fn run_file<W: Write>(
+    rt: &(impl Files + Print + Eprint),
+    name: &str,
+    output: &mut W,
+) -> io::Result<()> {
+    print!(rt; "{name} ")?;
+    match File::open(rt, name) {
+        Ok(mut file) => run(rt, &mut file, output),
+        Err(error) => eprintln!(rt; "{name}: {error}"),
     }
-    run(fd, output);
-    libc::close(fd);
 }
 
 // The name of file n: its number in two digits.
-fn name_of(n: u8) -> [u8; 2] {
+fn name_of(n: u8) -> [u8; 2]
+    ensures { IsAscii result }
+{
     [b'0' + n / 10, b'0' + n % 10]
 }
 
-fn run_number(n: u8) {
+fn run_number(rt: &(impl Files + Print + Eprint), n: u8) -> io::Result<()> {
     let name = name_of(n);
-    run_file(&name, STDOUT_FILENO);
+    run_file(rt, str::from_utf8(&name).unwrap(), &mut io::writer(rt))
 }
 
-fn run_all() {
+fn run_all(rt: &(impl Files + Print + Eprint)) -> io::Result<()> {
     for n in 0..FILES {
-        run_number(n);
+        run_number(rt, n)?;
     }
+    Ok(())
 }
 
-fn main() {
-    run_all();
-    print(b"directory ");
-    run_file(b".", STDOUT_FILENO);
-    print(b"closed input ");
-    run(CLOSED, STDOUT_FILENO);
-    print(b"closed output ");
-    run_file(b"25", CLOSED);
+fn main(rt: HostRuntime) -> io::Result<()> {
+    run_all(&rt)?;
+    print!(rt; "directory ")?;
+    run_file(&rt, ".", &mut io::writer(&rt))?;
+    print!(rt; "closed input ")?;
+    let mut unread = OpenOptions::new().write(true).open(&rt, DEVICE)?;
+    run(&rt, &mut unread, &mut io::writer(&rt))?;
+    print!(rt; "closed output ")?;
+    run_file(&rt, "25", &mut File::open(&rt, DEVICE)?)
 }

@@ -2,36 +2,33 @@
 // pattern of each level in four, then the limit in two, low byte first.
 #![tactic(auto)]
 
-use libc::STDOUT_FILENO;
 use motorcycle::Verdict;
+use std::fs::File;
+use std::io;
+use std::io::Read;
 
 const SIZE: usize = 18;
 
 // A line of a word and two numbers.
-fn print_line(word: &[u8], m: u64, n: u64) {
-    io::write_all(STDOUT_FILENO, word);
-    io::print_decimal(STDOUT_FILENO, m);
-    io::write_all(STDOUT_FILENO, b" ");
-    io::print_decimal(STDOUT_FILENO, n);
-    io::write_all(STDOUT_FILENO, b"\n");
+fn print_line(rt: &impl Print, word: &str, m: u64, n: u64) -> io::Result<()> {
+    println!(rt; "{word} {m} {n}")
 }
 
 // The mean and 1 if it passes, 0 if not; or the number and the place of the refusal.
-fn print_verdict(verdict: Verdict) {
+fn print_verdict(rt: &impl Print, verdict: Verdict) -> io::Result<()> {
     if let Verdict::Judged(mean, passes) = verdict {
-        print_line(b"OK ", mean.0 as u64, passes as u64);
-        return;
+        return print_line(rt, "OK", mean.0 as u64, passes as u64);
     }
     let number = motorcycle::verdict_number(verdict);
     let place = motorcycle::verdict_place(verdict);
-    print_line(b"REFUSED ", number as u64, place as u64);
+    print_line(rt, "REFUSED", number as u64, place as u64)
 }
 
 // Prints the verdict on the next set; answers whether there was one.
-fn print_next(fd: i32) -> bool {
+fn print_next(rt: &impl Print, file: &mut impl Read) -> io::Result<bool> {
     let mut bytes = [0u8; SIZE];
-    if io::read_full(fd, &mut bytes) < SIZE {
-        return false;
+    if file.read_exact(&mut bytes).is_err() {
+        return Ok(false);
     }
     let patterns = [
         units::number32(&bytes, 0),
@@ -40,26 +37,27 @@ fn print_next(fd: i32) -> bool {
         units::number32(&bytes, 12),
     ];
     let limit = units::number16(&bytes, 16);
-    print_verdict(motorcycle::judge(motorcycle::levels_of(&patterns), limit));
-    true
+    print_verdict(
+        rt,
+        motorcycle::judge(motorcycle::levels_of(&patterns), limit),
+    )?;
+    Ok(true)
 }
 
 // The turns are counted, since a proved loop ends and nothing says that a file does.
-fn print_all(fd: i32) {
+fn print_all(rt: &impl Print, file: &mut impl Read) -> io::Result<()> {
     for _ in 0..u32::MAX {
-        if !print_next(fd) {
-            return;
+        if !print_next(rt, file)? {
+            break;
         }
     }
+    Ok(())
 }
 
-fn main() {
-    let path = b"levels.bin";
-    let fd = os::open_read(path);
-    if fd < 0 {
-        os::fail(path);
-        return;
+fn main(rt: HostRuntime) -> io::Result<()> {
+    let path = "levels.bin";
+    match File::open(&rt, path) {
+        Ok(mut file) => print_all(&rt, &mut file),
+        Err(error) => eprintln!(rt; "{path}: {error}"),
     }
-    print_all(fd);
-    libc::close(fd);
 }

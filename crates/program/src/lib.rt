@@ -1,82 +1,93 @@
-// The evaluation program's whole job: a sheet is read from one descriptor to its end and evaluated, and its line is written to another.
+// The evaluation program's whole job: a sheet is read from one stream to its end and evaluated, and its line is written to another.
 //
 // No contract can say what the system reads, writes and answers. These say what an answer means, how many bytes there is room for, and which line
-// is laid out for the bytes that were counted.
+// is laid out for the bytes that were counted; and where a stream's bytes are known, as those of one in memory, which of them were read and
+// written.
 #![tactic(auto)]
 
-ghost use Rattle.std.specs.Prelude.{◌≡◌, ◌-◌, ◌≤◌, length, take};
+ghost use Rattle.std.specs.Prelude.{◌≡◌, ◌-◌, ◌≤◌, length, take, drop};
 ghost use Rattle.text.specs.Text.{onto};
 ghost use Rattle.line.specs.Line.{line_of_sheet};
 ghost use Rattle.program.specs.Program.{transfer_of, interrupted_by, Within, Exactly, Ran};
+ghost use Rattle.program.specs.Streams.{Took, TookAll, Gave, GaveWhole, TookSheet, GaveLine, Prints};
+
+use std::io;
+use std::io::{ErrorKind, Read, Write};
 
 // Room for a sheet: one byte more than the longest, so that a longer input is refused for its size.
 pub const SHEET_ROOM: usize = 32769;
 
 pub const LINE_ROOM: usize = line::ROOM;
 
-// What a call of read or write came to: how many bytes it moved, or that it failed.
+// What a call of read or write came to: how many bytes it moved, or why it failed.
 #[derive(Clone, Copy)]
 pub enum Transfer {
     Bytes(usize),
-    Failed,
+    Failed(io::Error),
 }
 
-// What became of the job, with the numbers of bytes that were read and written.
+// What became of the job, with the numbers of bytes that were read and written, or why they were not.
 #[derive(Clone, Copy)]
 pub enum Ending {
     Printed { read: usize, written: usize },
-    NotRead,
-    NotWritten { read: usize },
+    NotRead { error: io::Error },
+    NotWritten { read: usize, error: io::Error },
 }
 
 // What the answer of read or write means.
-fn transfer_of(got: isize) -> Transfer
+fn transfer_of(got: io::Result<usize>) -> Transfer
     ensures { result ≡ transfer_of got }
 {
-    if got < 0 {
-        Transfer::Failed
-    } else {
-        Transfer::Bytes(got as usize)
+    match got {
+        Ok(n) => Transfer::Bytes(n),
+        Err(error) => Transfer::Failed(error),
     }
 }
 
-// Whether a signal interrupted the call before it moved a byte, by its answer and the error number after it.
-fn interrupted(got: isize, error: i32) -> bool
-    ensures { result ≡ interrupted_by got error }
+// Whether a signal interrupted the call before it moved a byte, by its answer.
+fn interrupted(got: &io::Result<usize>) -> bool
+    ensures { result ≡ interrupted_by got.now }
 {
-    got < 0 && error == libc::EINTR
+    match got {
+        Ok(_) => false,
+        Err(error) => error.kind() == ErrorKind::Interrupted,
+    }
 }
 
-// Reads once into a piece, and again as long as a signal interrupts it. The turns are counted down, since a proved loop ends and nothing
-// says that the signals do.
-fn read_piece(fd: i32, piece: &mut [u8]) -> Transfer
-    ensures { Within (length piece.old) result }
+// Reads once into a piece, and again as long as a signal interrupts it. The turns are counted, since a proved loop ends and nothing says that
+// the signals do.
+fn read_piece<R: Read>(input: &mut R, piece: &mut [u8]) -> Transfer
+    ensures within { Within (length piece.old) result }
+    ensures took { Took (R.remaining input.old) (R.remaining input.new) piece.new result }
 {
-    let mut got = libc::read(fd, piece);
-    let mut turns = u32::MAX;
-    while turns > 0 && interrupted(got, os::errno()) {
-        got = libc::read(fd, piece);
-        turns -= 1;
+    let mut got = input.read(piece);
+    for _ in 0..u32::MAX {
+        if !interrupted(&got) {
+            break;
+        }
+        got = input.read(piece);
     }
     transfer_of(got)
 }
 
 // Reads a piece into the sheet from `at` on; the bytes before it stay.
-fn read_on(fd: i32, sheet: &mut [u8], at: usize) -> Transfer
+fn read_on<R: Read>(input: &mut R, sheet: &mut [u8], at: usize) -> Transfer
     requires { at ≤ length sheet.old }
     ensures within { Within (length sheet.old - at) result }
     ensures kept { take at sheet.new ≡ take at sheet.old }
+    ensures took { Took (R.remaining input.old) (R.remaining input.new) (drop at sheet.new) result }
 {
-    read_piece(fd, &mut sheet[at..])
+    read_piece(input, &mut sheet[at..])
 }
 
 // Reads until the input ends or the sheet is full: a read of no bytes is the end, one that fails is a failure.
-fn read_sheet(fd: i32, sheet: &mut [u8]) -> Transfer
-    ensures { Within (length sheet.old) result }
+fn read_sheet<R: Read>(input: &mut R, sheet: &mut [u8]) -> Transfer
+    ensures within { Within (length sheet.old) result }
+    ensures took { TookAll (R.remaining input.old) (R.remaining input.new) sheet.new result }
 {
     let mut at = 0;
     while at < sheet.len() {
-        let piece = read_on(fd, sheet, at);
+        let piece = read_on(input, sheet, at);
         let Transfer::Bytes(n) = piece else {
             return piece;
         };
@@ -88,31 +99,34 @@ fn read_sheet(fd: i32, sheet: &mut [u8]) -> Transfer
     Transfer::Bytes(at)
 }
 
-// Writes once, and again as long as a signal interrupts it; the turns are counted down as in `read_piece`.
-fn write_piece(fd: i32, piece: &[u8]) -> Transfer
-    ensures { Within (length piece.now) result }
+// Writes once, and again as long as a signal interrupts it; the turns are counted as in `read_piece`.
+fn write_piece<W: Write>(output: &mut W, piece: &[u8]) -> Transfer
+    ensures within { Within (length piece.now) result }
+    ensures gave { Gave (W.contents output.old) (W.contents output.new) piece.now result }
 {
-    let mut got = libc::write(fd, piece);
-    let mut turns = u32::MAX;
-    while turns > 0 && interrupted(got, os::errno()) {
-        got = libc::write(fd, piece);
-        turns -= 1;
+    let mut got = output.write(piece);
+    for _ in 0..u32::MAX {
+        if !interrupted(&got) {
+            break;
+        }
+        got = output.write(piece);
     }
     transfer_of(got)
 }
 
 // Writes all the bytes, piece by piece; a write that fails or takes none is a failure.
-fn write_whole(fd: i32, bytes: &[u8]) -> Transfer
-    ensures { Exactly (length bytes.now) result }
+fn write_whole<W: Write>(output: &mut W, bytes: &[u8]) -> Transfer
+    ensures exactly { Exactly (length bytes.now) result }
+    ensures gave { GaveWhole (W.contents output.old) (W.contents output.new) bytes.now result }
 {
     let mut at = 0;
     while at < bytes.len() {
-        let piece = write_piece(fd, &bytes[at..]);
+        let piece = write_piece(output, &bytes[at..]);
         let Transfer::Bytes(n) = piece else {
             return piece;
         };
         if n == 0 {
-            return Transfer::Failed;
+            return Transfer::Failed(io::Error::from(ErrorKind::WriteZero));
         }
         at += n;
     }
@@ -120,9 +134,10 @@ fn write_whole(fd: i32, bytes: &[u8]) -> Transfer
 }
 
 // Evaluates a sheet, lays out its line and writes it.
-pub fn print_line(sheet: &[u8], line: &mut [u8; LINE_ROOM], output: i32) -> Transfer
+pub fn print_line<W: Write>(sheet: &[u8], line: &mut [u8; LINE_ROOM], output: &mut W) -> Transfer
     ensures laid { line.new ≡ onto (line_of_sheet sheet.now) line.old }
     ensures exactly { Exactly (length (line_of_sheet sheet.now)) result }
+    ensures gave { GaveWhole (W.contents output.old) (W.contents output.new) (line_of_sheet sheet.now) result }
 {
     let n = line::sheet_line(sheet, line);
     let laid: &[u8] = line;
@@ -130,22 +145,27 @@ pub fn print_line(sheet: &[u8], line: &mut [u8; LINE_ROOM], output: i32) -> Tran
 }
 
 // Reads a sheet to the end of the input, evaluates it and prints its line.
-pub fn run(
-    input: i32,
-    output: i32,
+pub fn run<R: Read, W: Write>(
+    input: &mut R,
+    output: &mut W,
     sheet: &mut [u8; SHEET_ROOM],
     line: &mut [u8; LINE_ROOM],
 ) -> Ending
-    ensures { Ran sheet.new line.old line.new result }
+    ensures ran { Ran sheet.new line.old line.new result }
+    ensures took { TookSheet (R.remaining input.old) (R.remaining input.new) sheet.new result }
+    ensures gave { GaveLine (W.contents output.old) (W.contents output.new) sheet.new result }
+    ensures prints { Prints (R.remaining input.old) (W.contents output.old) (W.contents output.new) result }
 {
     let got = read_sheet(input, sheet);
-    let Transfer::Bytes(read) = got else {
-        return Ending::NotRead;
+    let read = match got {
+        Transfer::Bytes(read) => read,
+        Transfer::Failed(error) => return Ending::NotRead { error },
     };
     let bytes: &[u8] = sheet;
     let put = print_line(&bytes[..read], line, output);
-    let Transfer::Bytes(written) = put else {
-        return Ending::NotWritten { read };
+    let written = match put {
+        Transfer::Bytes(written) => written,
+        Transfer::Failed(error) => return Ending::NotWritten { read, error },
     };
     Ending::Printed { read, written }
 }

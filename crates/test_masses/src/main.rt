@@ -3,29 +3,26 @@
 // own unladen mass in kg, which is not read for two axles.
 #![tactic(auto)]
 
-use libc::STDOUT_FILENO;
 use lorry::{Loading, TwoAxles};
+use std::fs::File;
+use std::io;
+use std::io::Read;
 
 const SIZE: usize = 12;
 
-// A word and a number after it.
-fn print_part(word: &[u8], n: u64) {
-    io::write_all(STDOUT_FILENO, word);
-    io::print_decimal(STDOUT_FILENO, n);
-}
-
 // The four masses in ten-thousandths of a kg, or the number and the place of the refusal.
-fn print_loading(loading: Loading) {
+fn print_loading(rt: &impl Print, loading: Loading) -> io::Result<()> {
     if let Loading::Reckoned(given) = loading {
-        print_part(b"OK ", given.mass.0);
-        print_part(b" ", given.load.0);
-        print_part(b" ", given.lowest.0);
-        print_part(b" ", given.highest.0);
+        let mass = given.mass.0;
+        let load = given.load.0;
+        let lowest = given.lowest.0;
+        let highest = given.highest.0;
+        println!(rt; "OK {mass} {load} {lowest} {highest}")
     } else {
-        print_part(b"REFUSED ", loading.number() as u64);
-        print_part(b" ", loading.place() as u64);
+        let number = loading.number();
+        let place = loading.place();
+        println!(rt; "REFUSED {number} {place}")
     }
-    io::write_all(STDOUT_FILENO, b"\n");
 }
 
 // The test mass of the lorry in these bytes.
@@ -43,31 +40,29 @@ fn loading_in(bytes: &[u8; SIZE]) -> Loading {
 }
 
 // Prints the line of the next lorry; answers whether there was one.
-fn print_next(fd: i32) -> bool {
+fn print_next(rt: &impl Print, file: &mut impl Read) -> io::Result<bool> {
     let mut bytes = [0u8; SIZE];
-    if io::read_full(fd, &mut bytes) < SIZE {
-        return false;
+    if file.read_exact(&mut bytes).is_err() {
+        return Ok(false);
     }
-    print_loading(loading_in(&bytes));
-    true
+    print_loading(rt, loading_in(&bytes))?;
+    Ok(true)
 }
 
 // The turns are counted, since a proved loop ends and nothing says that a file does.
-fn print_all(fd: i32) {
+fn print_all(rt: &impl Print, file: &mut impl Read) -> io::Result<()> {
     for _ in 0..u32::MAX {
-        if !print_next(fd) {
-            return;
+        if !print_next(rt, file)? {
+            break;
         }
     }
+    Ok(())
 }
 
-fn main() {
-    let path = b"lorries.bin";
-    let fd = os::open_read(path);
-    if fd < 0 {
-        os::fail(path);
-        return;
+fn main(rt: HostRuntime) -> io::Result<()> {
+    let path = "lorries.bin";
+    match File::open(&rt, path) {
+        Ok(mut file) => print_all(&rt, &mut file),
+        Err(error) => eprintln!(rt; "{path}: {error}"),
     }
-    print_all(fd);
-    libc::close(fd);
 }
