@@ -6,8 +6,7 @@
 Prints a line for each case, and fails if one differs from what is expected:
 
     a fault of reading       nothing on standard output, one line on standard error that names the error
-    a fault of writing       no whole line on standard output, one line on standard error that names the error;
-                             or the program is ended by SIGPIPE, for a pipe whose reader has gone
+    a fault of writing       no whole line on standard output, one line on standard error that names the error
     standard error closed    the same, but without the line on standard error
     no fault                 the reckoner's line, however slowly, in whatever pieces and with whatever interruptions
     any word                 nothing on standard output, one line on standard error that points to standard input
@@ -65,7 +64,7 @@ class Case(NamedTuple):
     runs: list  # each starts the program and gives its outcome
 
 
-# What is expected. The exit status is always 0, since the language has no other, unless a signal ends the program.
+# What is expected. The exit status is always 0.
 
 def line_of(sheet):
     return reckon.line(sheet).encode() + b"\n"
@@ -91,10 +90,6 @@ def stops_within(sheet, error):
     line = line_of(sheet)
     return lambda found: (line.startswith(found.out) and not TRUSTED.match(found.out)
                           and is_message(found.err, os.strerror(error)) and found.status == 0)
-
-
-def is_ended_by(number):
-    return lambda found: found.out == b"" and found.status == -number
 
 
 def points_to_standard_input(found):
@@ -412,7 +407,7 @@ def writing_cases():
     yield Case("closed, standard error too", says_nothing, [partial(run, WORKED, preexec_fn=closed(1, 2))])
     yield Case("open for reading only", fails(errno.EBADF), [partial(into, "/dev/null", os.O_RDONLY)])
     yield Case("full", fails(errno.ENOSPC), [partial(into, "/dev/full", os.O_WRONLY)])
-    yield Case("a pipe without a reader", is_ended_by(signal.SIGPIPE), [pipe_without_reader])
+    yield Case("a pipe without a reader", fails(errno.EPIPE), [pipe_without_reader])
     yield Case("a pipe without a reader, its signal ignored", fails(errno.EPIPE),
                [partial(pipe_without_reader, restore_signals=False)])
     yield Case("a full pipe that does not wait", fails(errno.EAGAIN), [full_pipe_without_waiting])
