@@ -85,8 +85,8 @@ fn tenths_of(four: &[u8; 4]) -> u16
 
 // How far the next float is.
 fn spacing(n: u32) -> u32
-    ensures value { result ≡ spacing n }
-    ensures result_nonzero { (0 < result) × (result ≤ 8) }
+    ensures gap { result ≡ spacing n }
+    ensures range { (0 < result) × (result ≤ 8) }
 {
     if n < 16777216 {
         1
@@ -109,8 +109,8 @@ fn reached(n: u32, tenth: u16) -> bool
 // The next float. Two floats beside each other are less than a tenth apart.
 fn next(w: Walk) -> Walk
     requires { w.value < 100000000 }
-    ensures value_value { result.value ≡ w.value + spacing w.value }
-    ensures value_lt_value { w.value < result.value }
+    ensures step { result.value ≡ w.value + spacing w.value }
+    ensures rises { w.value < result.value }
 {
     let value = w.value + spacing(w.value);
     let tenth = if reached(value, w.tenth) {
