@@ -19,7 +19,7 @@ use Rattle.evaluation.specs.Answer.{IsAccepted, buffer_of}
 
 -- ---- close
 
--- the figure of an accepted sheet, and the bound 0.6 + 0.005 × (dk + dp), in dB (a sheet without chosen gears has neither: 0)
+-- the figure of an accepted sheet, and the bound 0.6 + 0.005 × (Dk + Dp), in dB (a sheet without chosen gears has neither: 0)
 unfoldable pub figure_by : Reference → Selection → Frac
 figure_by r (selection.Refused x) = 0 over 1
 figure_by r (selection.Chosen c) = figure r c

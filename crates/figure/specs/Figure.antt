@@ -1,4 +1,4 @@
--- The figure: the value that demand 3 compares L_urban with, reckoned with no rounding (document 01, second half of "L_urban"), dk and dp, and
+-- The figure: the value that demand 3 compares L_urban with, reckoned with no rounding (document 01, second half of "L_urban"), Dk and Dp, and
 -- demand 3, "Close, and rising", on the chosen gears. The figure starts from corrected tenths, PMR in tenths and accelerations in hundredths. It
 -- and every level here are in dB.
 use Rattle.std.specs.Prelude.{◌≡◌, cond, ℕ, ◌-◌, ◌≤◌, ◌<◌, ltb}
@@ -68,7 +68,7 @@ dk (Pair rule i j) = larger (apart (exact_mean (accelerating i)) (exact_mean (ac
 unfoldable pub dp : Reference → Chosen → Frac
 dp r g = exact_w r g ⊖ exact_c r g
 
--- 0.6 + 0.005 × (dk + dp)
+-- 0.6 + 0.005 × (Dk + Dp)
 unfoldable pub bound : Reference → Chosen → Frac
 bound r g = 6 over 10 ⊕ 5 over 1000 ⊗ (dk g ⊕ dp r g)
 

@@ -71,13 +71,9 @@ class_rises q q' low_car h = by (leb q 1200) refl (leb q 1600) refl (leb q 2000)
 -- ---- entries
 
 -- every entry is from 68 to 75: one test over the table
-entry_range : (k : ℕ) → k < 12 → (68 ≤ get_or limit_table k 0) × (get_or limit_table k 0 ≤ 75)
+pub entry_range : (k : ℕ) → k < 12 → (68 ≤ get_or limit_table k 0) × (get_or limit_table k 0 ≤ 75)
 unfolding limit_table
 entry_range k h = inside 68 75 (get_or limit_table k 0) (at (λ i x. within 68 75 x) limit_table tt k h)
-
-pub table_range : (q phase low_car : ℕ) → 1 ≤ phase → phase ≤ 3 → (68 ≤ table_limit q phase low_car) × (table_limit q phase low_car ≤ 75)
-unfolding table_limit
-table_range q phase low_car l h = entry_range (3 * class_of q low_car + (phase - 1)) (omega (arith, class_most q low_car))
 
 -- no entry is above that of the next class in the same phase: one test over the table
 next : (k : ℕ) → k < 9 → get_or limit_table k 0 ≤ get_or limit_table (k + 3) 0

@@ -2,7 +2,7 @@
 use mathlib.Core.Path.{◌≡◌, refl, sym, ◌∙◌}
 use mathlib.Core.Bool.{true, false, true≢false}
 use mathlib.Core.Logic.{◌⊎◌, inl, inr}
-use Prim.Native.Nat.{ℕ, ◌≤◌}
+use Prim.Native.Nat.{ℕ, ◌+◌, ◌-◌, ◌*◌, ◌≤◌}
 use native.Mathlib.Omega.{arith}
 use lib.Dec.{leb, eqb}
 use borrow.Author.Tests.{leb-true, not-false, eqb-false}
@@ -12,8 +12,13 @@ use Rattle.record.specs.declared.Vehicle.{Vehicle}
 use Rattle.record.specs.Records.{within, is_looked_up}
 use Rattle.limit.specs.declared.Limit.{Limit}
 use Rattle.limit.specs.declared.Limit.TheVariants.{Found, Refused}
-use Rattle.limit.specs.Limits.{has_entry, table_limit, no_limit_for_n1, no_limit_entry, limit_of, LimitsRise}
-use Rattle.limit.proofs.Classes.{table_range, table_rises}
+use Rattle.limit.specs.Limits.{class_of, has_entry, table_limit, no_limit_for_n1, no_limit_entry, limit_of, LimitsRise}
+use Rattle.limit.proofs.Classes.{class_most, entry_range, table_rises}
+
+-- the table's limit is from 68 to 75, as each entry is
+pub table_range : (q phase low_car : ℕ) → 1 ≤ phase → phase ≤ 3 → (68 ≤ table_limit q phase low_car) × (table_limit q phase low_car ≤ 75)
+unfolding table_limit
+table_range q phase low_car l h = entry_range (3 * class_of q low_car + (phase - 1)) (omega (arith, class_most q low_car))
 
 -- a phase that has an entry is from 1 to 3
 pub phase_good : (phase low_car : ℕ) → has_entry phase low_car ≡ true → (1 ≤ phase) × (phase ≤ 3)
