@@ -34,7 +34,9 @@ fn has_word(rt: &impl Env) -> bool {
 
 fn main(rt: HostRuntime) {
     if has_word(&rt) {
-        let _ = eprintln!(rt; "evaluate: takes no file name and no option; give it the sheet on standard input: evaluate < SHEET");
+        let _ = eprintln!(rt;
+            "evaluate: takes no file name and no option; give it the sheet on standard input: evaluate < SHEET"
+        );
         return;
     }
     evaluate_input(&rt);
