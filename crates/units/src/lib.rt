@@ -6,11 +6,11 @@ ghost use Rattle.units.specs.Rounding.{rounded};
 ghost use Rattle.units.specs.Bytes.{number};
 
 // A sound level, in tenths of dB(A).
-#[derive(Clone, Copy)]
+#[derive(Clone, Copy, Debug, Default, PartialEq, Eq, PartialOrd, Ord)]
 pub struct Tenths(pub u16);
 
 // An acceleration, in hundredths of m/s². A type of its own, so that code for gears cannot be handed a level.
-#[derive(Clone, Copy)]
+#[derive(Clone, Copy, Debug, Default, PartialEq, Eq, PartialOrd, Ord)]
 pub struct Hundredths(pub u16);
 
 // n / d to the nearest whole number, a half going up. Reckoned from the remainder, so that no sum can wrap.
