@@ -5,9 +5,8 @@ use native.Mathlib.Omega.{arith}
 use Rattle.refusal.specs.declared.Shortage.TheVariants.{TooFew, TooWide}
 use Rattle.refusal.specs.declared.Refusal.{Refusal}
 use Rattle.refusal.specs.declared.Refusal.TheVariants.{ShortBuffer, WrongSize, NoVehicle, NoClosing, BrokenRecord, NoLimitForN1, NoLimitEntry, PmrOutOfRange, NoRun, NoWindow, NotFalling, NoRule, NoConstantSpeed}
-use Rattle.refusal.specs.declared.Answer.{Answer}
-use Rattle.refusal.specs.declared.Answer.TheVariants.{Accepted, Refused}
-use Rattle.refusal.specs.Refusal.{number_of, answer_number}
+use Rattle.std.specs.Prelude.{Ok, Err}
+use Rattle.refusal.specs.Refusal.{Answer, number_of, answer_number}
 
 refusals_numbered : (r : Refusal) → 0 < number_of r
 refusals_numbered ShortBuffer = omega arith
@@ -26,6 +25,6 @@ refusals_numbered NoRule = omega arith
 refusals_numbered (NoConstantSpeed g TooFew) = omega arith
 refusals_numbered (NoConstantSpeed g TooWide) = omega arith
 
-pub accepted_by_0 : (a : Answer) → answer_number a ≡ 0 → a ≡ Accepted
-accepted_by_0 Accepted e = refl
-accepted_by_0 (Refused r) e = let none : ⊥ = omega (arith, refusals_numbered r) in absurd none
+pub accepted_by_0 : (a : Answer) → answer_number a ≡ 0 → a ≡ Ok tt
+accepted_by_0 (Ok tt) e = refl
+accepted_by_0 (Err r) e = let none : ⊥ = omega (arith, refusals_numbered r) in absurd none
