@@ -1,5 +1,6 @@
 -- `level::side_of` meets its contract, arm by arm. Assumes nothing.
 use mathlib.Core.Path.{sym, ◌∙◌}
+use mathlib.Core.Logic.{inl, inr}
 use Rattle.level.specs.Level.{side_of}
 use Rattle.level.proofs.side_of.Goals as goal
 
@@ -13,8 +14,4 @@ returns-else-in_range c = simp (c.in-Level.is, sym c.in_range.ensures ∙ c.if-i
 
 pub returns-in-Overload : goal.returns-in-Overload
 unfolding side_of
-returns-in-Overload c = rw c.in-Overload.is
-
-pub returns-in-Absent : goal.returns-in-Absent
-unfolding side_of
-returns-in-Absent c = rw c.in-Absent.is
+returns-in-Overload c = elim c.in-Overload.is [ inl (x, e) ↦ rw e | inr e ↦ rw e ]

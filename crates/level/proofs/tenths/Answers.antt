@@ -1,6 +1,8 @@
 -- `level::tenths` meets its contract: 2^19 times the level is a whole number, whose tenths are the level's (`Scaled`). Assumes nothing.
 use mathlib.Core.Path.{◌≡◌, ◌∙◌}
 use native.Mathlib.Omega.{arith}
+use lib.Dec.{T}
+use lib.Ieee.{binary32, fits}
 use borrow.Author.Rules.{rules}
 use Rattle.level.specs.Level.{tenths_of}
 use Rattle.level.proofs.Scaled.{scaled}
@@ -8,7 +10,7 @@ use Rattle.level.proofs.Rising.{tenths_range}
 use Rattle.level.proofs.tenths.Goals as goal
 
 right : (c : goal.After-round) → c.round.result ≡ tenths_of c.args.x
-right c = c.round.ensures ∙ (scaled c.args.x c.row_known-1.given c.requires).tenths
+right c = let f : T (fits binary32 c.args.x) = search rules in c.round.ensures ∙ (scaled c.args.x f c.requires).tenths
 
 pub float_to_float-n : goal.float_to_float-n
 float_to_float-n c = let n = (scaled c.args.x c.type_inv.x c.requires).number in search rules
