@@ -7,7 +7,7 @@ mod starts;
 
 ghost use Rattle.std.specs.Prelude.{◌≡◌, ◌≤◌, ◌<◌};
 ghost use Rattle.reference.specs.Reference.{pmr_of, a_urban, a_ref, reference_at};
-ghost use Rattle.reference.specs.Place.{Placed};
+ghost use Rattle.reference.specs.Place.{Rising, Placed};
 
 // What follows from PMR.
 #[derive(Clone, Copy)]
@@ -28,19 +28,10 @@ pub fn pmr(power: u16, mass: u16) -> u32
 
 // How many starts are not above q: the place of q among them.
 fn place(starts: &[u16], q: u16) -> usize
+    requires { Rising starts.now }
     ensures { Placed starts.now q result }
 {
-    let mut low = 0;
-    let mut high = starts.len();
-    while low < high {
-        let middle = low + (high - low) / 2;
-        if starts[middle] <= q {
-            low = middle + 1;
-        } else {
-            high = middle;
-        }
-    }
-    low
+    starts.partition_point(|start| *start <= q)
 }
 
 // a_urban for a PMR of q tenths.

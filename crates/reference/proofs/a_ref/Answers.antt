@@ -2,12 +2,15 @@
 use Rattle.std.proofs.Common.{refl, arith}
 use borrow.Author.Tests.{lt-ltb, le-ltb}
 use Rattle.reference.specs.Reference.{a_ref}
-use Rattle.reference.proofs.Powers.{start, placed_lowest}
+use Rattle.reference.proofs.Powers.{rising, start, placed_lowest}
 use Rattle.reference.proofs.a_ref.Goals as goal
 
 pub returns-then-q-lt250 : goal.returns-then-q-lt250
 unfolding a_ref
 returns-then-q-lt250 c = rw (lt-ltb _ _ c.if-q-lt250.true) c.a_urban.ensures
+
+pub place-requires : goal.place-requires
+place-requires c = rising _ tt
 
 pub returns : goal.returns
 unfolding a_ref start

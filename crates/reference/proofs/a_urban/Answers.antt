@@ -1,8 +1,11 @@
--- The test over the table is computed, and the place of q says which N is its own.
+-- The starts rise, by a test over the table that is computed, as the one is of which N each start opens; and the place of q says which N is its own.
 use Rattle.std.proofs.Common.{refl, arith}
 use Rattle.reference.specs.Reference.{a_urban}
-use Rattle.reference.proofs.Powers.{start, placed_lowest}
+use Rattle.reference.proofs.Powers.{rising, start, placed_lowest}
 use Rattle.reference.proofs.a_urban.Goals as goal
+
+pub place-requires : goal.place-requires
+place-requires c = rising _ tt
 
 pub returns : goal.returns
 unfolding a_urban start
