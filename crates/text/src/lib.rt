@@ -21,12 +21,8 @@ fn put_word(word: &[u8], out: &mut [u8]) -> usize
     ensures end { result ≡ length word.now }
     ensures written { out.new ≡ sets out.old 0 word.now }
 {
-    let mut n = 0;
-    while n < word.len() {
-        out[n] = word[n];
-        n += 1;
-    }
-    n
+    out[..word.len()].copy_from_slice(word);
+    word.len()
 }
 
 // The digits of n, the last `most` at the most. Recursive, since the most significant digit goes first.
@@ -38,10 +34,10 @@ fn put_digits(n: u64, most: usize, out: &mut [u8], at: usize) -> usize
     if most == 0 {
         at
     } else if n < 10 {
-        put(48 + n as u8, out, at)
+        put(b'0' + n as u8, out, at)
     } else {
         let end = put_digits(n / 10, most - 1, out, at);
-        put(48 + (n % 10) as u8, out, end)
+        put(b'0' + (n % 10) as u8, out, end)
     }
 }
 
@@ -54,11 +50,9 @@ pub fn put_line(word: &[u8], numbers: &[u64], out: &mut [u8]) -> usize
     ensures bytes { out.new ≡ onto (line_with word.now numbers.now) out.old }
 {
     let mut end = put_word(word, out);
-    let mut n = 0;
-    while n < numbers.len() {
-        end = put(32, out, end);
-        end = put_digits(numbers[n], 20, out, end);
-        n += 1;
+    for number in numbers {
+        end = put(b' ', out, end);
+        end = put_digits(*number, 20, out, end);
     }
-    put(10, out, end)
+    put(b'\n', out, end)
 }
