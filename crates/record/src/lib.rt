@@ -7,9 +7,9 @@ ghost use Rattle.std.specs.Float.{binary32};
 ghost use Rattle.std.specs.Float.Ieee.{nan_bits};
 ghost use Rattle.units.specs.Bytes.{number};
 ghost use Rattle.level.specs.Reading.{reading_of};
-ghost use Rattle.record.specs.Records.{record_at, byte, word, within, zeros, backgrounds_in, vehicle_good, vehicle_in, path_of, run_in, reading_from, readable, run_good, closing_good, closing_in};
+ghost use Rattle.record.specs.Records.{record_at, byte, word, within, zeros, backgrounds_in, category_of, start_line_of, vehicle_good, vehicle_in, path_of, kind_byte, kind_of, run_in, reading_from, readable, run_good, closing_good, closing_in};
 
-use level::{Found, Reading};
+use level::Reading;
 use units::Tenths;
 
 // A record: the constants that belong to it, and how one is shown.
@@ -21,12 +21,8 @@ impl Record {
     pub const SIZE: usize = 32;
     // How many records a sheet can have.
     pub const LIMIT: usize = 1024;
-    // Its kinds: byte 0.
+    // Its kinds: byte 0. Those of a run are `RunKind`'s.
     pub const VEHICLE: u8 = 1;
-
-    pub const ACCELERATION: u8 = 2;
-
-    pub const CONSTANT_SPEED: u8 = 3;
 
     pub const CLOSING: u8 = 9;
 
@@ -64,18 +60,12 @@ fn word_within(r: &[u8], at: usize, low: u16, high: u16) -> bool
     (low <= w) & (w <= high)
 }
 
-// Whether the bytes from `at` to before `end` are zero. All are read, so that the loop has no branch in it.
+// Whether the bytes from `at` to before `end` are zero.
 fn blank(r: &[u8], at: usize, end: usize) -> bool
     requires { (at ≤ end) × (end ≤ length r.now) }
     ensures { result ≡ zeros r.now at (end - at) }
 {
-    let mut ok = true;
-    let mut i = at;
-    while i < end {
-        ok = ok & (r[i] == 0);
-        i += 1;
-    }
-    ok
+    r[at..end].iter().all(|&b| b == 0)
 }
 
 // ---- the backgrounds of a record
@@ -103,12 +93,52 @@ fn backgrounds_in(r: &[u8], left: usize, right: usize) -> Backgrounds
 
 // ---- the vehicle record
 
+// The category of the vehicle.
+#[derive(Clone, Copy, Debug, PartialEq, Eq)]
+pub enum Category {
+    M1,
+    N1,
+}
+
+impl Category {
+    // A byte of 2 is N1; the only other one in a good record is 1, M1.
+    fn of(byte: u8) -> Category
+        ensures { result ≡ category_of byte }
+    {
+        if byte == 2 {
+            Category::N1
+        } else {
+            Category::M1
+        }
+    }
+}
+
+// The line where the acceleration starts.
+#[derive(Clone, Copy, Debug, PartialEq, Eq)]
+pub enum StartLine {
+    // AA'
+    Aa,
+    // PP'
+    Pp,
+}
+
+impl StartLine {
+    // A byte of 0 is AA'; the only other one in a good record is 1, PP'.
+    fn of(byte: u8) -> StartLine
+        ensures { result ≡ start_line_of byte }
+    {
+        if byte == 0 {
+            StartLine::Aa
+        } else {
+            StartLine::Pp
+        }
+    }
+}
+
 #[derive(Clone, Copy)]
 pub struct Vehicle {
-    // 1 M1, 2 N1
-    pub category: u8,
-    // 0 AA', 1 PP'
-    pub start_line: u8,
+    pub category: Category,
+    pub start_line: StartLine,
     // tenths of kW
     pub power: u16,
     // kg, in running order
@@ -154,8 +184,8 @@ pub fn vehicle_in(r: &[u8]) -> Vehicle
     ensures { result ≡ vehicle_in r.now }
 {
     Vehicle {
-        category: r[1],
-        start_line: r[2],
+        category: Category::of(r[1]),
+        start_line: StartLine::of(r[2]),
         power: units::number16(r, 4),
         mass: units::number16(r, 6),
         length: units::number16(r, 8),
@@ -172,26 +202,48 @@ pub fn path_of(v: Vehicle) -> u16
     requires { v.length ≤ 2000 }
     ensures { result ≡ path_of v }
 {
-    if v.start_line == 0 {
-        2000 + v.length
-    } else {
-        1000 + v.length
+    match v.start_line {
+        StartLine::Aa => 2000 + v.length,
+        StartLine::Pp => 1000 + v.length,
     }
 }
 
 // ---- a run record
 
+// The kinds of a run, with their byte 0.
+#[derive(Clone, Copy, Debug, PartialEq, Eq)]
+pub enum RunKind {
+    Acceleration = 2,
+    ConstantSpeed = 3,
+}
+
+impl RunKind {
+    // Byte 0 of a run record of this kind.
+    pub fn byte(self) -> u8
+        ensures { result ≡ kind_byte self }
+    {
+        self as u8
+    }
+
+    // The kind of a good run record by its byte 0.
+    fn of(byte: u8) -> RunKind
+        ensures { result ≡ kind_of byte }
+    {
+        if byte == 2 {
+            RunKind::Acceleration
+        } else {
+            RunKind::ConstantSpeed
+        }
+    }
+}
+
 #[derive(Clone, Copy)]
 pub struct Run {
-    // Record::ACCELERATION or Record::CONSTANT_SPEED
-    pub kind: u8,
+    pub kind: RunKind,
     pub gear: u8,
     pub struck: bool,
-    // 1 a level, 2 an overload, 0 absent
-    pub left_kind: u8,
-    pub right_kind: u8,
-    pub left: f32,
-    pub right: f32,
+    pub left: Reading,
+    pub right: Reading,
     // at the start line, tenths of km/h
     pub start_speed: u16,
     // at BB', tenths of km/h
@@ -208,42 +260,25 @@ pub fn run_in(r: &[u8]) -> Run
     ensures { result ≡ run_in r.now }
 {
     Run {
-        kind: r[0],
+        kind: RunKind::of(r[0]),
         gear: r[1],
         struck: r[2] == 1,
-        left_kind: r[3],
-        right_kind: r[4],
-        left: f32::from_bits(units::number32(r, 8)),
-        right: f32::from_bits(units::number32(r, 12)),
+        left: reading_from(r[3], f32::from_bits(units::number32(r, 8))),
+        right: reading_from(r[4], f32::from_bits(units::number32(r, 12))),
         start_speed: units::number16(r, 16),
         end_speed: units::number16(r, 18),
         engine_speed: units::number16(r, 20),
     }
 }
 
+// The reading of a kind byte and a float, in a record that is known to be good: there a kind that is neither 1 nor 2 is 0, absent.
 fn reading_from(kind: u8, x: f32) -> Reading
     ensures { result ≡ reading_from kind x }
 {
-    if kind == 1 {
-        return Reading::Level(x);
-    }
-    if kind == 2 {
-        return Reading::Overload(x);
-    }
-    Reading::Absent
-}
-
-impl Run {
-    pub fn left_reading(self) -> Reading
-        ensures { result ≡ reading_from self.left_kind self.left }
-    {
-        reading_from(self.left_kind, self.left)
-    }
-
-    pub fn right_reading(self) -> Reading
-        ensures { result ≡ reading_from self.right_kind self.right }
-    {
-        reading_from(self.right_kind, self.right)
+    match kind {
+        1 => Reading::Level(x),
+        2 => Reading::Overload(x),
+        _ => Reading::Absent,
     }
 }
 
@@ -252,10 +287,7 @@ fn readable_at(kind: u8, r: &[u8], at: usize) -> bool
     requires { at + 4 ≤ length r.now }
     ensures { result ≡ readable (reading_of kind (number r.now at 4)) }
 {
-    match level::reading_at(kind, r, at) {
-        Found::Good(_) => true,
-        Found::Broken => false,
-    }
+    level::reading_at(kind, r, at).is_some()
 }
 
 // Whether an acceleration run is at least as fast at BB' as at the start line.
@@ -265,7 +297,7 @@ fn not_slower(r: &[u8]) -> bool
 {
     let start = units::number16(r, 16);
     let end = units::number16(r, 18);
-    (r[0] != Record::ACCELERATION) | (start <= end)
+    (r[0] != RunKind::Acceleration.byte()) | (start <= end)
 }
 
 pub fn run_good(r: &[u8]) -> bool
@@ -274,7 +306,9 @@ pub fn run_good(r: &[u8]) -> bool
     if r.len() != Record::SIZE {
         return false;
     }
-    byte_within(r, 0, Record::ACCELERATION, Record::CONSTANT_SPEED)
+    let first = RunKind::Acceleration.byte();
+    let last = RunKind::ConstantSpeed.byte();
+    byte_within(r, 0, first, last)
         & byte_within(r, 1, 1, 16)
         & byte_within(r, 2, 0, 1)
         & readable_at(r[3], r, 8)
