@@ -1,4 +1,5 @@
 pub mod Examinations
+pub mod Finding
 pub mod Layouts
 pub mod Presence
 mod Examples
