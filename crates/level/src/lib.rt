@@ -21,6 +21,7 @@ pub enum Reading {
 }
 
 // Whether a float is a level in range: finite, and from 20.0 to 140.0.
+#[tactic(auto, using(crate::proofs::Range::low_out, crate::proofs::Range::high_decides))]
 pub fn in_range(x: f32) -> bool
     ensures { result ≡ in_range x }
 {
@@ -28,6 +29,7 @@ pub fn in_range(x: f32) -> bool
 }
 
 // The float of a bit pattern, if it is a level in range. No float is made from the pattern of a NaN.
+#[tactic(auto, using(crate::proofs::Range::nan_out, crate::proofs::Range::no_nan), unfolding(crate::specs::Reading::level_of))]
 fn level_of(pattern: u32) -> Option<f32>
     ensures { result ≡ level_of (of_bits binary32 pattern) }
 {
@@ -39,17 +41,14 @@ fn level_of(pattern: u32) -> Option<f32>
 }
 
 // The reading of a kind byte and the four bytes of `s` from `at`, if they are one.
+#[tactic(auto, using(crate::proofs::Readings::absent, crate::proofs::Readings::level, crate::proofs::Readings::overload, crate::proofs::Readings::unknown))]
 pub fn reading_at(kind: u8, s: &[u8], at: usize) -> Option<Reading>
     requires { at + 4 ≤ length s.now }
     ensures { result ≡ reading_of kind (number s.now at 4) }
 {
     let pattern = units::number32(s, at);
     match kind {
-        0 => if pattern == 0 {
-            Some(Reading::Absent)
-        } else {
-            None
-        },
+        0 if pattern == 0 => Some(Reading::Absent),
         1 => level_of(pattern).map(Reading::Level),
         2 => level_of(pattern).map(Reading::Overload),
         _ => None,
@@ -58,6 +57,7 @@ pub fn reading_at(kind: u8, s: &[u8], at: usize) -> Option<Reading>
 
 // A level's exact value, rounded to a tenth. A float of 20 or more has no digit below 2^-19, so 2^19 times it is a whole number,
 // which an `f64` holds.
+#[tactic(auto, using(crate::proofs::Scaled::scaled, crate::proofs::Rising::tenths_range))]
 pub fn tenths(x: f32) -> Tenths
     requires { T (in_range x) }
     ensures { result.0 ≡ tenths_of x }
@@ -78,6 +78,7 @@ const CORRECTIONS: [Tenths; 6] = [
 
 // What is taken off for a difference d: the table's entry at the nearest whole decibel, and nothing past its end, from 15.5 on. That is
 // asked first, since a run so far above the background needs no rounding.
+#[tactic(auto, using(crate::proofs::Corrections::nothing_off), unfolding(crate::specs::Level::correction_of, crate::specs::Level::corrections, units::specs::Rounding::rounded))]
 fn correction(d: Tenths) -> Tenths
     requires { 100 ≤ d.0 }
     ensures { result.0 ≡ correction_of d.0 }
@@ -90,6 +91,7 @@ fn correction(d: Tenths) -> Tenths
 }
 
 // A rounded level against its background: the corrected level, if the side counts.
+#[tactic(auto, using(crate::proofs::Sides::side_counts, crate::proofs::Sides::too_near, crate::proofs::Corrections::correction_small))]
 pub fn corrected(level: Tenths, background: Tenths) -> Option<Tenths>
     ensures { result ≡ corrected_side level.0 background.0 }
 {
@@ -101,17 +103,12 @@ pub fn corrected(level: Tenths, background: Tenths) -> Option<Tenths>
 }
 
 // The validity rule of one side: its corrected level, if it counts.
+#[tactic(auto, unfolding(crate::specs::Level::side_of))]
 pub fn side_of(reading: Reading, background: Tenths) -> Option<Tenths>
     ensures { result ≡ side_of reading background.0 }
 {
     match reading {
-        Reading::Level(x) => {
-            if in_range(x) {
-                corrected(tenths(x), background)
-            } else {
-                None
-            }
-        }
-        Reading::Overload(_) | Reading::Absent => None,
+        Reading::Level(x) if in_range(x) => corrected(tenths(x), background),
+        Reading::Level(_) | Reading::Overload(_) | Reading::Absent => None,
     }
 }
