@@ -27,6 +27,7 @@ impl Record {
     pub const CLOSING: u8 = 9;
 
     // Record `number` of any byte string, from 0: its bytes as they stand there, or an empty part if there is no such whole record.
+    #[tactic(auto, using(crate::proofs::Shown::shown, crate::proofs::Shown::none), unfolding(crate::specs::Records::records))]
     pub fn at(sheet: &[u8], number: usize) -> &[u8]
         ensures { result.now ≡ record_at sheet.now number }
     {
@@ -78,6 +79,7 @@ pub struct Backgrounds {
 }
 
 // The backgrounds of the fields at `left` and `right`; zero on the right stands for the left's.
+#[tactic(auto, unfolding(crate::specs::Records::backgrounds_in))]
 fn backgrounds_in(r: &[u8], left: usize, right: usize) -> Backgrounds
     requires { (left + 2 ≤ length r.now) × (right + 2 ≤ length r.now) }
     ensures { result ≡ backgrounds_in r.now left right }
@@ -157,6 +159,7 @@ pub struct Vehicle {
     pub low_car: u8,
 }
 
+#[tactic(auto, unfolding(crate::specs::Records::vehicle_good, crate::specs::Records::vehicle_tests))]
 pub fn vehicle_good(r: &[u8]) -> bool
     ensures { result ≡ vehicle_good r.now }
 {
@@ -179,6 +182,7 @@ pub fn vehicle_good(r: &[u8]) -> bool
         & blank(r, 20, 32)
 }
 
+#[tactic(auto, unfolding(crate::specs::Records::vehicle_in))]
 pub fn vehicle_in(r: &[u8]) -> Vehicle
     requires { length r.now ≡ 32 }
     ensures { result ≡ vehicle_in r.now }
@@ -253,6 +257,7 @@ pub struct Run {
 }
 
 // The run of a record that is known to be good.
+#[tactic(auto, unfolding(crate::specs::Records::run_in))]
 pub fn run_in(r: &[u8]) -> Run
     requires long { length r.now ≡ 32 }
     requires left_number { nan_bits binary32 (number r.now 8 4) ≡ false }
@@ -272,6 +277,7 @@ pub fn run_in(r: &[u8]) -> Run
 }
 
 // The reading of a kind byte and a float, in a record that is known to be good: there a kind that is neither 1 nor 2 is 0, absent.
+#[tactic(auto, unfolding(crate::specs::Records::reading_from))]
 fn reading_from(kind: u8, x: f32) -> Reading
     ensures { result ≡ reading_from kind x }
 {
@@ -300,6 +306,7 @@ fn not_slower(r: &[u8]) -> bool
     (r[0] != RunKind::Acceleration.byte()) | (start <= end)
 }
 
+#[tactic(auto, unfolding(crate::specs::Records::run_good, crate::specs::Records::run_tests))]
 pub fn run_good(r: &[u8]) -> bool
     ensures { result ≡ run_good r.now }
 {
@@ -331,6 +338,7 @@ pub struct Closing {
     pub backgrounds: Backgrounds,
 }
 
+#[tactic(auto, unfolding(crate::specs::Records::closing_good, crate::specs::Records::closing_tests))]
 pub fn closing_good(r: &[u8]) -> bool
     ensures { result ≡ closing_good r.now }
 {
@@ -344,6 +352,7 @@ pub fn closing_good(r: &[u8]) -> bool
         & blank(r, 8, 32)
 }
 
+#[tactic(auto, unfolding(crate::specs::Records::closing_in))]
 pub fn closing_in(r: &[u8]) -> Closing
     requires { length r.now ≡ 32 }
     ensures { result ≡ closing_in r.now }
