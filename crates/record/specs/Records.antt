@@ -170,22 +170,24 @@ kind_byte ConstantSpeed = 3
 abbrev pub kind_of : ℕ → RunKind
 kind_of b = cond (eqb b 2) Acceleration ConstantSpeed
 
--- the reading of a kind and a float: 1 a level, 2 an overload, else absent
-unfoldable pub reading_from : ℕ → Float → Reading
-reading_from kind x = cond (eqb kind 1) (Level x) (cond (eqb kind 2) (Overload x) Absent)
-
 unfoldable pub run_in : List ℕ → Run
 run_in r =
     record {
       kind = kind_of (byte r 0);
       gear = byte r 1;
       struck = eqb (byte r 2) 1;
-      left = reading_from (byte r 3) (of_bits binary32 (number r 8 4));
-      right = reading_from (byte r 4) (of_bits binary32 (number r 12 4));
+      left_kind = byte r 3;
+      right_kind = byte r 4;
+      left = of_bits binary32 (number r 8 4);
+      right = of_bits binary32 (number r 12 4);
       start_speed = word r 16;
       end_speed = word r 18;
       engine_speed = word r 20;
     }
+
+-- the reading of a kind and a float: 1 a level, 2 an overload, else absent
+unfoldable pub reading_from : ℕ → Float → Reading
+reading_from kind x = cond (eqb kind 1) (Level x) (cond (eqb kind 2) (Overload x) Absent)
 
 -- ---- the closing record. Row 4 of the refusals asks for the number of runs, at 2.
 

@@ -21,8 +21,12 @@ impl Record {
     pub const SIZE: usize = 32;
     // How many records a sheet can have.
     pub const LIMIT: usize = 1024;
-    // Its kinds: byte 0. Those of a run are `RunKind`'s.
+    // Its kinds: byte 0.
     pub const VEHICLE: u8 = 1;
+
+    pub const ACCELERATION: u8 = 2;
+
+    pub const CONSTANT_SPEED: u8 = 3;
 
     pub const CLOSING: u8 = 9;
 
@@ -214,11 +218,11 @@ pub fn path_of(v: Vehicle) -> u16
 
 // ---- a run record
 
-// The kinds of a run, with their byte 0.
+// The kinds of a run.
 #[derive(Clone, Copy, Debug, PartialEq, Eq)]
 pub enum RunKind {
-    Acceleration = 2,
-    ConstantSpeed = 3,
+    Acceleration,
+    ConstantSpeed,
 }
 
 impl RunKind {
@@ -226,14 +230,17 @@ impl RunKind {
     pub fn byte(self) -> u8
         ensures { result ≡ kind_byte self }
     {
-        self as u8
+        match self {
+            RunKind::Acceleration => Record::ACCELERATION,
+            RunKind::ConstantSpeed => Record::CONSTANT_SPEED,
+        }
     }
 
     // The kind of a good run record by its byte 0.
     fn of(byte: u8) -> RunKind
         ensures { result ≡ kind_of byte }
     {
-        if byte == 2 {
+        if byte == Record::ACCELERATION {
             RunKind::Acceleration
         } else {
             RunKind::ConstantSpeed
@@ -241,13 +248,17 @@ impl RunKind {
     }
 }
 
+// The two levels are the meter's floats as the record holds them, each beside its kind byte; `left_reading` and `right_reading` give the readings.
 #[derive(Clone, Copy)]
 pub struct Run {
     pub kind: RunKind,
     pub gear: u8,
     pub struck: bool,
-    pub left: Reading,
-    pub right: Reading,
+    // 1 a level, 2 an overload, 0 absent
+    pub left_kind: u8,
+    pub right_kind: u8,
+    pub left: f32,
+    pub right: f32,
     // at the start line, tenths of km/h
     pub start_speed: u16,
     // at BB', tenths of km/h
@@ -268,8 +279,10 @@ pub fn run_in(r: &[u8]) -> Run
         kind: RunKind::of(r[0]),
         gear: r[1],
         struck: r[2] == 1,
-        left: reading_from(r[3], f32::from_bits(units::number32(r, 8))),
-        right: reading_from(r[4], f32::from_bits(units::number32(r, 12))),
+        left_kind: r[3],
+        right_kind: r[4],
+        left: f32::from_bits(units::number32(r, 8)),
+        right: f32::from_bits(units::number32(r, 12)),
         start_speed: units::number16(r, 16),
         end_speed: units::number16(r, 18),
         engine_speed: units::number16(r, 20),
@@ -288,6 +301,20 @@ fn reading_from(kind: u8, x: f32) -> Reading
     }
 }
 
+impl Run {
+    pub fn left_reading(self) -> Reading
+        ensures { result ≡ reading_from self.left_kind self.left }
+    {
+        reading_from(self.left_kind, self.left)
+    }
+
+    pub fn right_reading(self) -> Reading
+        ensures { result ≡ reading_from self.right_kind self.right }
+    {
+        reading_from(self.right_kind, self.right)
+    }
+}
+
 // Whether a kind byte and the four bytes from `at` give a reading.
 fn readable_at(kind: u8, r: &[u8], at: usize) -> bool
     requires { at + 4 ≤ length r.now }
@@ -303,7 +330,7 @@ fn not_slower(r: &[u8]) -> bool
 {
     let start = units::number16(r, 16);
     let end = units::number16(r, 18);
-    (r[0] != RunKind::Acceleration.byte()) | (start <= end)
+    (r[0] != Record::ACCELERATION) | (start <= end)
 }
 
 #[tactic(auto, unfolding(crate::specs::Records::run_good, crate::specs::Records::run_tests))]
@@ -313,9 +340,7 @@ pub fn run_good(r: &[u8]) -> bool
     if r.len() != Record::SIZE {
         return false;
     }
-    let first = RunKind::Acceleration.byte();
-    let last = RunKind::ConstantSpeed.byte();
-    byte_within(r, 0, first, last)
+    byte_within(r, 0, Record::ACCELERATION, Record::CONSTANT_SPEED)
         & byte_within(r, 1, 1, 16)
         & byte_within(r, 2, 0, 1)
         & readable_at(r[3], r, 8)
