@@ -16,6 +16,7 @@ fn put(b: u8, out: &mut [u8], at: usize) -> usize
 }
 
 // The bytes of a word at the front of `out`; answers how many.
+#[tactic(auto, using(crate::proofs::Stores::front), unfolding(crate::specs::Text::onto))]
 fn put_word(word: &[u8], out: &mut [u8]) -> usize
     requires { length word.now ≤ length out.old }
     ensures end { result ≡ length word.now }
@@ -26,6 +27,7 @@ fn put_word(word: &[u8], out: &mut [u8]) -> usize
 }
 
 // The digits of n, the last `most` at the most. Recursive, since the most significant digit goes first.
+#[tactic(auto, using(crate::proofs::Digits::none, crate::proofs::Digits::one_digit, crate::proofs::Digits::more_digits, crate::proofs::Stores::sets_append))]
 fn put_digits(n: u64, most: usize, out: &mut [u8], at: usize) -> usize
     requires { at + most ≤ length out.old }
     ensures end { (result ≡ at + length (digits_of most n)) × (result ≤ at + most) }
@@ -43,6 +45,7 @@ fn put_digits(n: u64, most: usize, out: &mut [u8], at: usize) -> usize
 
 // A line at the front of `out`: a word, each number after a space, and a line feed; answers how many bytes it takes. The bytes behind it stay.
 // A number takes at most 21 bytes with its space.
+#[tactic(auto, unfolding(crate::specs::Text::spaced))]
 pub fn put_line(word: &[u8], numbers: &[u64], out: &mut [u8]) -> usize
     requires { length word.now + 21 * length numbers.now < length out.old }
     ensures size { result ≡ length (line_with word.now numbers.now) }

@@ -1,5 +1,5 @@
 -- Each turn stores a space and a number behind what stands there, and the line feed ends the line. Assumes nothing.
-use mathlib.Core.Path.{◌≡◌, refl, sym, ap, ◌∙◌}
+use mathlib.Core.Path.{◌≡◌, sym, ap, ◌∙◌}
 use mathlib.Core.List.{List, [], ◌∷◌, ◌++◌}
 use Prim.Native.Nat.{ℕ, ◌+◌}
 use native.Mathlib.Omega.{arith}
@@ -9,10 +9,6 @@ use Rattle.text.specs.Text.{digits_of, spaced, line_with}
 use Rattle.text.proofs.Digits.{one_more, all_of, parted}
 use Rattle.text.proofs.Stores.{behind, front}
 use Rattle.text.proofs.put_line.Goals as goal
-
-pub loop-number-init : goal.loop-number-init
-unfolding spaced
-loop-number-init c = record { most = omega arith; size = omega arith; bytes = refl }
 
 pub loop-number-preserved : goal.loop-number-preserved
 loop-number-preserved c =
