@@ -58,7 +58,13 @@ place_of (NotFalling g) = g
 place_of NoRule = 0
 place_of (NoConstantSpeed g x) = g
 
--- ---- an answer, what the caller gets of an evaluation: 0 and 0 for an accepted sheet
+-- ---- an answer: what is given of its refusal, and 0 where there is none
+
+abbrev pub number_in : {T E : Type 0} → (E → ℕ) → Result T E → ℕ
+number_in given (Ok t) = 0
+number_in given (Err e) = given e
+
+-- ---- the answer that the caller gets of an evaluation: 0 and 0 for an accepted sheet
 
 abbrev pub Answer : Type 0
 Answer = Result (Unit {0}) Refusal

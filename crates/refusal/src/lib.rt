@@ -1,8 +1,8 @@
 // The causes of a refusal with their numbers and places, and those of an answer: what the caller gets of an evaluation.
 #![tactic(auto)]
 
-ghost use Rattle.std.specs.Prelude.{◌≡◌};
-ghost use Rattle.refusal.specs.Refusal.{number_of, place_of, answer_number, answer_place};
+ghost use Rattle.std.specs.Prelude.{◌≡◌, ℕ};
+ghost use Rattle.refusal.specs.Refusal.{number_in, number_of, place_of, answer_number, answer_place};
 
 // Why the runs of a gear and a run kind have no window.
 #[derive(Clone, Copy, Debug, PartialEq, Eq)]
@@ -44,11 +44,26 @@ pub enum Refusal {
     NoConstantSpeed(u8, Shortage),
 }
 
-impl Refusal {
+// A refusal with the number that the papers give it, and its place.
+pub trait Numbered {
+    ghost number: { Self → ℕ };
+
+    ghost place: { Self → ℕ };
+
+    fn number(self) -> u8
+        ensures { result ≡ number self };
+
+    fn place(self) -> usize
+        ensures { result ≡ place self };
+}
+
+impl Numbered for Refusal {
+    ghost number = { number_of };
+
+    ghost place = { place_of };
+
     // Its number.
-    pub fn number(self) -> u8
-        ensures { result ≡ number_of self }
-    {
+    fn number(self) -> u8 {
         match self {
             Refusal::ShortBuffer => 1,
             Refusal::WrongSize => 2,
@@ -69,9 +84,7 @@ impl Refusal {
     }
 
     // Its place: a record, a gear, or 0.
-    pub fn place(self) -> usize
-        ensures { result ≡ place_of self }
-    {
+    fn place(self) -> usize {
         match self {
             Refusal::NoClosing(n) | Refusal::BrokenRecord(n) => n,
             Refusal::NoWindow(g, _) | Refusal::NotFalling(g) | Refusal::NoConstantSpeed(g, _) =>
@@ -88,22 +101,22 @@ impl Refusal {
     }
 }
 
-// The number of an answer: 0 on success.
-pub fn answer_number(a: Result<(), Refusal>) -> u8
-    ensures { result ≡ answer_number a }
+// The number of an answer: that of its refusal, and 0 on success.
+pub fn answer_number<T: Drop, E: Numbered>(answer: Result<T, E>) -> u8
+    ensures { result ≡ number_in E.number answer }
 {
-    match a {
-        Ok(()) => 0,
-        Err(r) => r.number(),
+    match answer {
+        Ok(_) => 0,
+        Err(e) => e.number(),
     }
 }
 
-// The place of an answer: 0 on success.
-pub fn answer_place(a: Result<(), Refusal>) -> usize
-    ensures { result ≡ answer_place a }
+// Its place, and 0 on success.
+pub fn answer_place<T: Drop, E: Numbered>(answer: Result<T, E>) -> usize
+    ensures { result ≡ number_in E.place answer }
 {
-    match a {
-        Ok(()) => 0,
-        Err(r) => r.place(),
+    match answer {
+        Ok(_) => 0,
+        Err(e) => e.place(),
     }
 }
