@@ -23,16 +23,6 @@ pub struct ValidRun {
     pub number: u16,
 }
 
-// What an array of runs holds where no run has been stored.
-pub const EMPTY_RUN: ValidRun = ValidRun {
-    left: Tenths(0),
-    right: Tenths(0),
-    start: 0,
-    end: 0,
-    engine: 0,
-    number: 0,
-};
-
 // Four neighbours among the runs that count.
 #[derive(Clone, Copy, Debug, Default, PartialEq, Eq)]
 pub struct Four {
@@ -41,14 +31,6 @@ pub struct Four {
     pub c: ValidRun,
     pub d: ValidRun,
 }
-
-// What an array of windows holds where none has been stored.
-pub const EMPTY_FOUR: Four = Four {
-    a: EMPTY_RUN,
-    b: EMPTY_RUN,
-    c: EMPTY_RUN,
-    d: EMPTY_RUN,
-};
 
 // The greatest and the least of the levels read so far.
 #[derive(Clone, Copy)]
