@@ -3,6 +3,7 @@
 #![tactic(auto)]
 
 use production::{AfterVerdict, Check, Status};
+use refusal::Numbered;
 use std::fs::File;
 use std::io;
 use std::io::Read;
@@ -22,12 +23,10 @@ fn print_check(rt: &impl Print, check: Check) -> io::Result<()> {
 
 // The number and the place of the refusal of a list's last car, where it is refused.
 fn print_refusal(rt: &impl Print, reply: Result<(), AfterVerdict>) -> io::Result<()> {
-    if reply.is_ok() {
-        return Ok(());
+    if let Err(refusal) = reply {
+        print!(rt; " REFUSED {} {}", refusal.number(), refusal.place())?;
     }
-    let number = production::reply_number(reply);
-    let place = production::reply_place(reply);
-    print!(rt; " REFUSED {number} {place}")
+    Ok(())
 }
 
 // Offers the next cars of the file, each to the check that the one before it gave back, and prints what is known after the last. A list that

@@ -3,6 +3,7 @@
 #![tactic(auto)]
 
 use motorcycle::{Judged, LevelRefusal};
+use refusal::Numbered;
 use std::fs::File;
 use std::io;
 use std::io::Read;
@@ -16,12 +17,15 @@ fn print_line(rt: &impl Print, word: &str, m: u64, n: u64) -> io::Result<()> {
 
 // The mean and 1 if it passes, 0 if not; or the number and the place of the refusal.
 fn print_verdict(rt: &impl Print, verdict: Result<Judged, LevelRefusal>) -> io::Result<()> {
-    if let Ok(judged) = verdict {
-        return print_line(rt, "OK", judged.mean.0 as u64, judged.pass as u64);
+    match verdict {
+        Ok(judged) => print_line(rt, "OK", judged.mean.0 as u64, judged.pass as u64),
+        Err(refusal) => print_line(
+            rt,
+            "REFUSED",
+            refusal.number() as u64,
+            refusal.place() as u64,
+        ),
     }
-    let number = motorcycle::verdict_number(verdict);
-    let place = motorcycle::verdict_place(verdict);
-    print_line(rt, "REFUSED", number as u64, place as u64)
 }
 
 // The verdict on the set in these bytes.

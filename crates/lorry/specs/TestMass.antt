@@ -2,6 +2,7 @@
 -- reckoned. Nothing is rounded and nothing is divided: a mass is in hundredths of a kg, in which 75% of whole kilograms is whole, and what is given is
 -- in ten-thousandths, in which 95% and 105% of hundredths are.
 use Rattle.std.specs.Prelude.{Bool, cond, ℕ, ◌+◌, ◌-◌, ◌*◌, leb, ltb, Result, Ok, Err}
+use Rattle.refusal.specs.Refusal.{number_in}
 use Rattle.lorry.specs.declared.TwoAxles.{TwoAxles}
 use Rattle.lorry.specs.declared.KgTenThousandths.{KgTenThousandths}
 use Rattle.lorry.specs.declared.Masses.{Masses}
@@ -88,10 +89,14 @@ unfoldable pub more_axles_of : TwoAxles → ℕ → Loading
 more_axles_of x own = loading_of x (more_axles_mass x own) (kg own)
 
 -- the number and the place of the refusal: 0 and 0 where masses are given
+abbrev pub number_of : RearOverloaded → ℕ
+number_of refusal = 21
+
+abbrev pub place_of : RearOverloaded → ℕ
+place_of refusal = 0
+
 abbrev pub loading_number : Loading → ℕ
-loading_number (Ok masses) = 0
-loading_number (Err refusal) = 21
+loading_number loading = number_in number_of loading
 
 abbrev pub loading_place : Loading → ℕ
-loading_place (Ok masses) = 0
-loading_place (Err refusal) = 0
+loading_place loading = number_in place_of loading

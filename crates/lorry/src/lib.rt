@@ -3,7 +3,9 @@
 #![tactic(auto)]
 
 ghost use Rattle.std.specs.Prelude.{◌≡◌, ◌+◌, ◌≤◌, false};
-ghost use Rattle.lorry.specs.TestMass.{kg, driver, target_of, unladen_of, permitted_of, overloaded, is_negative, extra, two_axles_mass, more_axles_mass, masses_of, loading_of, two_axles_of, more_axles_of, loading_number, loading_place};
+ghost use Rattle.lorry.specs.TestMass.{kg, driver, target_of, unladen_of, permitted_of, overloaded, is_negative, extra, two_axles_mass, more_axles_mass, masses_of, loading_of, two_axles_of, more_axles_of, number_of, place_of};
+
+use refusal::Numbered;
 
 // A lorry of two axles, or the stand-in of one of more.
 #[derive(Clone, Copy, Debug, PartialEq, Eq)]
@@ -38,6 +40,22 @@ pub struct Masses {
 // 21: unladen, the rear axle carries more than 75% of its maximum.
 #[derive(Clone, Copy, Debug, PartialEq, Eq)]
 pub struct RearOverloaded;
+
+impl Numbered for RearOverloaded {
+    ghost number = { number_of };
+
+    ghost place = { place_of };
+
+    // 21
+    fn number(self) -> u8 {
+        21
+    }
+
+    // It names no place.
+    fn place(self) -> usize {
+        0
+    }
+}
 
 // 75 kg
 const DRIVER: u32 = 7_500;
@@ -165,24 +183,4 @@ pub fn more_axles(stand_in: TwoAxles, own: u16) -> Result<Masses, RearOverloaded
     ensures { result ≡ more_axles_of stand_in own }
 {
     loading_of(stand_in, more_axles_mass(stand_in, own), kg(own))
-}
-
-// The number of the refusal; 0 if masses are given.
-pub fn loading_number(loading: Result<Masses, RearOverloaded>) -> u8
-    ensures { result ≡ loading_number loading }
-{
-    match loading {
-        Ok(_) => 0,
-        Err(RearOverloaded) => 21,
-    }
-}
-
-// Its place, which is 0 for either.
-pub fn loading_place(loading: Result<Masses, RearOverloaded>) -> usize
-    ensures { result ≡ loading_place loading }
-{
-    match loading {
-        Ok(_) => 0,
-        Err(RearOverloaded) => 0,
-    }
 }

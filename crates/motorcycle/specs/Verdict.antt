@@ -2,6 +2,7 @@
 -- and the tenths of a level are those of a sheet, and the rounding is the one of every rule.
 use Rattle.std.specs.Prelude.{Bool, cond, not, ◌||◌, [], ◌∷◌, ℕ, ◌+◌, ◌*◌, ◌-◌, leb, ltb, Float, get_or, Result, Ok, Err}
 use Rattle.std.specs.Float.{nan}
+use Rattle.refusal.specs.Refusal.{number_in}
 use Rattle.units.specs.Rounding.{rounded}
 use Rattle.units.specs.Tests.{lowest}
 use Rattle.level.specs.Reading.{in_range}
@@ -67,12 +68,16 @@ verdict_of x limit =
 
 -- ---- the number and the place of a refusal: 0 and 0 for levels that are judged
 
+abbrev pub number_of : LevelRefusal → ℕ
+number_of (LevelOutOfRange n) = 22
+number_of (SideFarApart side) = 23
+
+abbrev pub place_of : LevelRefusal → ℕ
+place_of (LevelOutOfRange n) = n
+place_of (SideFarApart side) = side
+
 abbrev pub verdict_number : Verdict → ℕ
-verdict_number (Ok judged) = 0
-verdict_number (Err (LevelOutOfRange n)) = 22
-verdict_number (Err (SideFarApart side)) = 23
+verdict_number v = number_in number_of v
 
 abbrev pub verdict_place : Verdict → ℕ
-verdict_place (Ok judged) = 0
-verdict_place (Err (LevelOutOfRange n)) = n
-verdict_place (Err (SideFarApart side)) = side
+verdict_place v = number_in place_of v

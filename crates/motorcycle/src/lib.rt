@@ -7,8 +7,10 @@ ghost use Rattle.std.specs.Float.{binary32};
 ghost use Rattle.std.specs.Float.Ieee.{of_bits};
 ghost use Rattle.units.specs.Tests.{below};
 ghost use Rattle.level.specs.Reading.{in_range};
-ghost use Rattle.motorcycle.specs.Verdict.{first_outside, whole_of, far_apart, verdict_of, verdict_number, verdict_place};
+ghost use Rattle.motorcycle.specs.Verdict.{first_outside, whole_of, far_apart, verdict_of, number_of, place_of};
 ghost use Rattle.motorcycle.specs.Patterns.{levels_of};
+
+use refusal::Numbered;
 
 // Four levels as the meter gave them, any floats: 1 and 2 are of the left side, 3 and 4 of the right.
 #[derive(Clone, Copy, Debug)]
@@ -37,6 +39,27 @@ pub enum LevelRefusal {
     LevelOutOfRange(u8),
     // 23: the first side, 1 left or 2 right, whose two levels differ by more than 2 dB
     SideFarApart(u8),
+}
+
+impl Numbered for LevelRefusal {
+    ghost number = { number_of };
+
+    ghost place = { place_of };
+
+    fn number(self) -> u8 {
+        match self {
+            LevelRefusal::LevelOutOfRange(_) => 22,
+            LevelRefusal::SideFarApart(_) => 23,
+        }
+    }
+
+    // The level's number, or the side.
+    fn place(self) -> usize {
+        match self {
+            LevelRefusal::LevelOutOfRange(n) => n as usize,
+            LevelRefusal::SideFarApart(side) => side as usize,
+        }
+    }
 }
 
 // The number of the first level that is out of range; none if all four are in range.
@@ -88,28 +111,6 @@ pub fn judge(levels: Levels, limit: u16) -> Result<Judged, LevelRefusal>
         mean: Quarters(mean),
         pass: mean as u32 <= 4 * limit as u32,
     })
-}
-
-// The number of a verdict's refusal; 0 if the levels are judged.
-pub fn verdict_number(v: Result<Judged, LevelRefusal>) -> u8
-    ensures { result ≡ verdict_number v }
-{
-    match v {
-        Ok(_) => 0,
-        Err(LevelRefusal::LevelOutOfRange(_)) => 22,
-        Err(LevelRefusal::SideFarApart(_)) => 23,
-    }
-}
-
-// Its place: a level's number, a side, or 0.
-pub fn verdict_place(v: Result<Judged, LevelRefusal>) -> usize
-    ensures { result ≡ verdict_place v }
-{
-    match v {
-        Ok(_) => 0,
-        Err(LevelRefusal::LevelOutOfRange(n)) => n as usize,
-        Err(LevelRefusal::SideFarApart(side)) => side as usize,
-    }
 }
 
 // The float of a bit pattern. A NaN is made by a division, since the language reads no float from the pattern of one.

@@ -1,6 +1,7 @@
 -- Production checks on the list of cars offered so far, in their order, each as its L_urban (document 02, wish 11; document 001, annex 7, 3, and
 -- its paragraph 8.1).
 use Rattle.std.specs.Prelude.{Bool, cond, ◌&&◌, List, [], ◌∷◌, ℕ, ◌+◌, ◌-◌, leb, length, take, Result, Ok, Err}
+use Rattle.refusal.specs.Refusal.{number_in}
 use Rattle.production.specs.declared.Status.{Status}
 use Rattle.production.specs.declared.Status.TheVariants.{Open, Conforms, DoesNotConform}
 use Rattle.production.specs.declared.AfterVerdict.{AfterVerdict}
@@ -49,10 +50,14 @@ abbrev pub reply_of : ℕ → List ℕ → Reply
 reply_of limit cars = reply_by (status_of limit cars) (counted_of limit cars)
 
 -- the number and the place of a refusal: 0 and 0 for a car that is counted
+abbrev pub number_of : AfterVerdict → ℕ
+number_of refusal = 20
+
+abbrev pub place_of : AfterVerdict → ℕ
+place_of refusal = refusal.counted
+
 abbrev pub reply_number : Reply → ℕ
-reply_number (Ok taken) = 0
-reply_number (Err refusal) = 20
+reply_number reply = number_in number_of reply
 
 abbrev pub reply_place : Reply → ℕ
-reply_place (Ok taken) = 0
-reply_place (Err refusal) = refusal.counted
+reply_place reply = number_in place_of reply

@@ -3,10 +3,12 @@
 #![tactic(auto)]
 
 ghost use Rattle.std.specs.Prelude.{◌≡◌};
-ghost use Rattle.production.specs.Annex.{meets, reply_number, reply_place};
+ghost use Rattle.production.specs.Annex.{meets, number_of, place_of};
 ghost use Rattle.production.specs.Stages.{status_at, wanted_at, reply_at, next_stage, start_of, offer_of};
 ghost use Rattle.production.specs.Sequences.{StatusByAnnex, WantedByAnnex, OfferByAnnex, KeptIfRefused};
 ghost use Rattle.production.specs.Numbers.{status_number, stage_number, stage_of, restored_of};
+
+use refusal::Numbered;
 
 // What the cars counted so far have given.
 #[derive(Clone, Copy, Debug, PartialEq, Eq)]
@@ -195,23 +197,19 @@ impl Check {
     }
 }
 
-// The number of a reply, for C and Rust: that of the refusal, or 0 if the car is counted.
-pub fn reply_number(reply: Result<(), AfterVerdict>) -> u8
-    ensures { result ≡ reply_number reply }
-{
-    match reply {
-        Ok(()) => 0,
-        Err(_) => 20,
-    }
-}
+impl Numbered for AfterVerdict {
+    ghost number = { number_of };
 
-// Its place: the number of cars counted before a refused one, or 0.
-pub fn reply_place(reply: Result<(), AfterVerdict>) -> usize
-    ensures { result ≡ reply_place reply }
-{
-    match reply {
-        Ok(()) => 0,
-        Err(AfterVerdict { counted }) => counted as usize,
+    ghost place = { place_of };
+
+    // 20
+    fn number(self) -> u8 {
+        20
+    }
+
+    // The number of cars counted.
+    fn place(self) -> usize {
+        self.counted as usize
     }
 }
 

@@ -4,6 +4,7 @@
 #![tactic(auto)]
 
 use lorry::{Masses, RearOverloaded, TwoAxles};
+use refusal::Numbered;
 use std::fs::File;
 use std::io;
 use std::io::Read;
@@ -12,16 +13,15 @@ const SIZE: usize = 12;
 
 // The four masses in ten-thousandths of a kg, or the number and the place of the refusal.
 fn print_loading(rt: &impl Print, loading: Result<Masses, RearOverloaded>) -> io::Result<()> {
-    if let Ok(given) = loading {
-        let mass = given.mass.0;
-        let load = given.load.0;
-        let lowest = given.lowest.0;
-        let highest = given.highest.0;
-        println!(rt; "OK {mass} {load} {lowest} {highest}")
-    } else {
-        let number = lorry::loading_number(loading);
-        let place = lorry::loading_place(loading);
-        println!(rt; "REFUSED {number} {place}")
+    match loading {
+        Ok(given) => {
+            let mass = given.mass.0;
+            let load = given.load.0;
+            let lowest = given.lowest.0;
+            let highest = given.highest.0;
+            println!(rt; "OK {mass} {load} {lowest} {highest}")
+        }
+        Err(refusal) => println!(rt; "REFUSED {} {}", refusal.number(), refusal.place()),
     }
 }
 
