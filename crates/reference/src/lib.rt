@@ -1,12 +1,13 @@
 // PMR, and the reference accelerations that follow from it.
 #![tactic(auto)]
 
+use std::marker::Model;
 use units::Hundredths;
 
 mod starts;
 
-ghost use Rattle.std.specs.Prelude.{◌≡◌, ◌≤◌, ◌<◌};
-ghost use Rattle.reference.specs.Reference.{pmr_of, a_urban, a_ref, reference_at};
+ghost use Rattle.std.specs.Prelude.{◌≡◌, ℕ, ◌≤◌, ◌<◌};
+ghost use Rattle.reference.specs.Reference.{pmr_of, pmr_in_range, a_urban, a_ref, reference_at};
 ghost use Rattle.reference.specs.Place.{Rising, Placed};
 
 // What follows from PMR.
@@ -16,6 +17,36 @@ pub struct Reference {
     pub pmr: u16,
     pub a_urban: Hundredths,
     pub a_ref: Hundredths,
+}
+
+// A PMR that has reference accelerations, in tenths: from 5.0 to 600.0.
+#[derive(Clone, Copy)]
+pub struct PmrInRange {
+    tenths: u16,
+}
+
+impl Model for PmrInRange {
+    ghost Value = { ℕ };
+
+    ghost view = { λ q. q.tenths };
+
+    ghost invariant = { λ q. (50 ≤ q.tenths) × (q.tenths ≤ 6000) };
+
+    ghost inverse = { λ n. record { tenths = n } };
+}
+
+impl PmrInRange {
+    // The PMR of a number of tenths, if it has them.
+    pub fn new(tenths: u32) -> Option<PmrInRange>
+        ensures { result ≡ pmr_in_range tenths }
+    {
+        if (tenths < 50) | (6000 < tenths) {
+            return None;
+        }
+        Some(PmrInRange {
+            tenths: tenths as u16,
+        })
+    }
 }
 
 // PMR in tenths, from the power in tenths of kW and the mass in kg.
@@ -34,33 +65,40 @@ fn place(starts: &[u16], q: u16) -> usize
     starts.partition_point(|start| *start <= q)
 }
 
-// a_urban for a PMR of q tenths.
-pub fn a_urban(q: u16) -> Hundredths
-    requires { (50 ≤ q) × (q ≤ 6000) }
-    ensures { result.0 ≡ a_urban q }
-{
-    Hundredths(35 + place(&starts::URBAN, q) as u16)
-}
-
-// a_ref for a PMR of q tenths.
-pub fn a_ref(q: u16) -> Hundredths
-    requires { (50 ≤ q) × (q ≤ 6000) }
-    ensures { result.0 ≡ a_ref q }
-{
-    if q < 250 {
-        return a_urban(q);
+impl PmrInRange {
+    // The number of tenths.
+    fn tenths(self) -> u16
+        ensures value { result ≡ self }
+        ensures range { (50 ≤ result) × (result ≤ 6000) }
+    {
+        self.tenths
     }
-    Hundredths(81 + place(&starts::REF, q) as u16)
-}
 
-// PMR in tenths with the accelerations that follow from it.
-pub fn reference_at(q: u16) -> Reference
-    requires { (50 ≤ q) × (q ≤ 6000) }
-    ensures { result ≡ reference_at q }
-{
-    Reference {
-        pmr: q,
-        a_urban: a_urban(q),
-        a_ref: a_ref(q),
+    pub fn a_urban(self) -> Hundredths
+        ensures { result.0 ≡ a_urban self }
+    {
+        let q = self.tenths();
+        Hundredths(35 + place(&starts::URBAN, q) as u16)
+    }
+
+    pub fn a_ref(self) -> Hundredths
+        ensures { result.0 ≡ a_ref self }
+    {
+        let q = self.tenths();
+        if q < 250 {
+            return self.a_urban();
+        }
+        Hundredths(81 + place(&starts::REF, q) as u16)
+    }
+
+    // It and the accelerations that follow from it.
+    pub fn reference(self) -> Reference
+        ensures { result ≡ reference_at self }
+    {
+        Reference {
+            pmr: self.tenths(),
+            a_urban: self.a_urban(),
+            a_ref: self.a_ref(),
+        }
     }
 }
