@@ -2,13 +2,14 @@
 // No level and no speed is read here.
 #![tactic(auto)]
 
-ghost use Rattle.std.specs.Prelude.{◌≡◌, ◌-◌, ◌≤◌, ◌<◌};
+ghost use Rattle.std.specs.Prelude.{◌≡◌, List, ℕ, ◌-◌, ◌≤◌, ◌<◌};
 ghost use Rattle.units.specs.Tests.{lowest, below};
 ghost use Rattle.record.specs.Records.{records};
 ghost use Rattle.sheet.specs.Sheet.{last_of, wrong_size, no_vehicle, no_closing, good_at, lowest_broken, examined, RunsGood, has_byte, any_acceleration, present_of};
 
 use record::{Closing, Record, RunKind, Vehicle};
 use refusal::Refusal;
+use std::marker::Model;
 
 // What a whole sheet says beside its runs.
 #[derive(Clone, Copy)]
@@ -103,29 +104,59 @@ pub fn next_with(sheet: &[u8], at: usize, value: u8, from: usize, last: usize) -
     (from..last).find(|n| sheet[Record::SIZE * *n + at] == value)
 }
 
-// Whether a sheet has an acceleration run.
-#[tactic(auto, unfolding(record::specs::Records::records))]
-pub fn any_acceleration(sheet: &[u8]) -> bool
-    requires { RunsGood sheet.now }
-    ensures { result ≡ any_acceleration sheet.now }
-{
-    let last = sheet.len() / Record::SIZE - 1;
-    next_with(sheet, 0, RunKind::Acceleration.byte(), 1, last).is_some()
+// The bytes of a whole sheet: the first and the last record stand, and the run records between them are good.
+#[derive(Drop)]
+pub struct Sheet<'a> {
+    content: &'a [u8],
 }
 
-// Which gears have an acceleration run, each at its number.
-#[tactic(auto, using(record::proofs::Shown::record_long), unfolding(record::specs::Records::records))]
-pub fn present(sheet: &[u8]) -> [bool; 17]
-    requires { RunsGood sheet.now }
-    ensures { result ≡ present_of sheet.now }
-{
-    let last = sheet.len() / Record::SIZE - 1;
-    let mut seen = [false; 17];
-    for i in 1..last {
-        let r = Record::at(sheet, i);
-        if r[0] == RunKind::Acceleration.byte() {
-            seen[r[1] as usize] = true;
-        }
+impl<'a> Model for Sheet<'a> {
+    ghost Value = { List ℕ };
+
+    ghost view = { λ s. s.content.now };
+
+    ghost invariant = { λ s. RunsGood s.content.now };
+}
+
+impl<'a> Sheet<'a> {
+    pub fn of(bytes: &'a [u8]) -> Sheet<'a>
+        requires { RunsGood bytes.now }
+        ensures { result ≡ bytes.now }
+    {
+        Sheet { content: bytes }
     }
-    seen
+
+    pub fn bytes(&self) -> &'a [u8]
+        ensures value { result.now ≡ self.now }
+        ensures runs_good { RunsGood result.now }
+    {
+        self.content
+    }
+
+    // Whether it has an acceleration run.
+    #[tactic(auto, unfolding(record::specs::Records::records))]
+    pub fn any_acceleration(&self) -> bool
+        ensures { result ≡ any_acceleration self.now }
+    {
+        let bytes = self.bytes();
+        let last = bytes.len() / Record::SIZE - 1;
+        next_with(bytes, 0, RunKind::Acceleration.byte(), 1, last).is_some()
+    }
+
+    // Which gears have an acceleration run, each at its number.
+    #[tactic(auto, using(record::proofs::Shown::record_long), unfolding(record::specs::Records::records))]
+    pub fn present(&self) -> [bool; 17]
+        ensures { result ≡ present_of self.now }
+    {
+        let bytes = self.bytes();
+        let last = bytes.len() / Record::SIZE - 1;
+        let mut seen = [false; 17];
+        for i in 1..last {
+            let r = Record::at(bytes, i);
+            if r[0] == RunKind::Acceleration.byte() {
+                seen[r[1] as usize] = true;
+            }
+        }
+        seen
+    }
 }
