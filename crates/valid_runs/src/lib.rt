@@ -4,12 +4,12 @@
 ghost use Rattle.std.specs.Prelude.{◌≡◌, true, ◌<◌, drop};
 ghost use Rattle.arrayvec.specs.ArrayVec.{array_vec_len};
 ghost use Rattle.record.specs.Records.{records, record_at, run_good};
-ghost use Rattle.sheet.specs.Sheet.{RunsGood};
 ghost use Rattle.valid_runs.specs.ValidRuns.{backgrounds_of, valid_of, candidate_of, window_of};
 
 use arrayvec::ArrayVec;
 use record::{Backgrounds, Record, Run, RunKind};
 use refusal::Shortage;
+use sheet::Sheet;
 use window::{Four, ValidRun};
 
 // A gear and a run kind, with the backgrounds of their runs.
@@ -74,17 +74,17 @@ fn carry(runs: &mut ArrayVec<ValidRun, 16>)
 // The first window of a condition in a sheet, or why there is none. Runs that count are gathered 16 at a time. Once three were carried, there are
 // more runs than are held: they are not too few, however few are held at the end.
 #[tactic(auto, using(crate::proofs::Seeking::next_range, crate::proofs::Seeking::sought_start, crate::proofs::Seeking::sought_next, crate::proofs::Seeking::sought_other), unfolding(record::specs::Records::records))]
-pub fn window_of(sheet: &[u8], condition: Condition) -> Result<Four, Shortage>
-    requires { RunsGood sheet.now }
+pub fn window_of(sheet: &Sheet<'_>, condition: Condition) -> Result<Four, Shortage>
     ensures { result ≡ window_of sheet.now condition }
 {
-    let last = sheet.len() / Record::SIZE - 1;
+    let bytes = sheet.bytes();
+    let last = bytes.len() / Record::SIZE - 1;
     let mut runs: ArrayVec<ValidRun, 16> = ArrayVec::new();
     let mut carried = false;
     let mut from = 1;
-    while let Some(i) = sheet::next_with(sheet, 1, condition.gear, from, last) {
+    while let Some(i) = sheet::next_with(bytes, 1, condition.gear, from, last) {
         from = i + 1;
-        let Some(run) = candidate(sheet, condition, i as u16) else {
+        let Some(run) = candidate(bytes, condition, i as u16) else {
             continue;
         };
         runs.push(run);

@@ -10,7 +10,7 @@ invariant-loop-i l =
       room : array_vec_len l.runs < 16;
       first : 1 ≤ l.from;
       past : l.from ≤ l.last;
-      kept : Sought l.sheet l.condition l.last l.runs.items l.carried l.from;
+      kept : Sought l.bytes l.condition l.last l.runs.items l.carried l.from;
     }
 
 abbrev pub decreases-loop-i : goal.decreases-loop-i
