@@ -4,16 +4,19 @@
 ghost use Rattle.std.specs.Prelude.{◌≡◌, ◌≤◌, ◌<◌, get_or};
 ghost use Rattle.arrayvec.specs.ArrayVec.{array_vec_len};
 ghost use Rattle.record.specs.declared.RunKind.TheVariants.{Acceleration};
-ghost use Rattle.sheet.specs.Sheet.{RunsGood, has_acceleration};
+ghost use Rattle.sheet.specs.Sheet.{RunsGood, any_acceleration, has_acceleration};
 ghost use Rattle.window.specs.Windows.{Each, empty_four};
 ghost use Rattle.valid_runs.specs.ValidRuns.{NotSlower};
 ghost use Rattle.gears.specs.Rules.{gear_at};
+ghost use Rattle.session.specs.Session as spec;
 ghost use Rattle.session.specs.Session.{session_of, condition_of, window_in, slow_enough, gear_acceleration, by_window, state_of, entries_of, without_window, gears_in, windows_in};
 
 use arrayvec::ArrayVec;
 use gears::Gear;
 use record::{Backgrounds, RunKind};
 use refusal::Shortage;
+use sheet::Sheet;
+use std::marker::Model;
 use units::Hundredths;
 use valid_runs::Condition;
 use window::{Four, ValidRun};
@@ -78,44 +81,6 @@ fn acceleration(f: Four, path: u16) -> Hundredths
     gears::mean(of(f.a), of(f.b), of(f.c), of(f.d))
 }
 
-// A gear with an acceleration run, by its acceleration window.
-#[tactic(auto, using(valid_runs::proofs::Members::window_not_slower), unfolding(crate::specs::Session::by_window))]
-fn by_window(sheet: &[u8], track: Track, gear: u8) -> State
-    requires runs_good { RunsGood sheet.now }
-    requires path_range { (1000 ≤ track.path) × (track.path ≤ 4000) }
-    ensures { result ≡ by_window track gear (window_in (session_of sheet.now track) Acceleration gear) }
-{
-    match valid_runs::window_of(sheet, track.condition(RunKind::Acceleration, gear)) {
-        Ok(window) => {
-            if slow_enough(window, track.rated) {
-                let gear = Gear {
-                    number: gear,
-                    acceleration: acceleration(window, track.path),
-                };
-                State::Remains(Entry { gear, window })
-            } else {
-                State::Dropped
-            }
-        }
-        Err(shortage) => State::NoWindow(shortage),
-    }
-}
-
-// The state of a gear; `here` says whether it has an acceleration run.
-#[tactic(auto, unfolding(crate::specs::Session::state_of))]
-fn state_of(sheet: &[u8], track: Track, gear: u8, here: bool) -> State
-    requires runs_good { RunsGood sheet.now }
-    requires path_range { (1000 ≤ track.path) × (track.path ≤ 4000) }
-    requires marked { here ≡ has_acceleration sheet.now gear }
-    ensures { result ≡ state_of (session_of sheet.now track) gear }
-{
-    if here {
-        by_window(sheet, track, gear)
-    } else {
-        State::NoRun
-    }
-}
-
 // A gear with acceleration runs and no window, and its shortage.
 #[derive(Clone, Copy, Debug, PartialEq, Eq)]
 pub struct WithoutWindow {
@@ -154,30 +119,100 @@ impl Table {
     }
 }
 
-// The table of a session.
-#[tactic(auto, using(sheet::proofs::Presence::present_at))]
-pub fn table_of(sheet: &[u8], track: Track) -> Table
-    requires runs_good { RunsGood sheet.now }
-    requires path_range { (1000 ≤ track.path) × (track.path ≤ 4000) }
-    ensures entries { result.entries.items ≡ entries_of (session_of sheet.now track) }
-    ensures without_window { result.without_window ≡ without_window (session_of sheet.now track) }
-{
-    let seen = sheet::present(sheet);
-    let mut entries = ArrayVec::new();
-    for gear in 1..=16 {
-        match state_of(sheet, track, gear, seen[gear as usize]) {
-            State::Remains(entry) => entries.push(entry),
-            State::NoWindow(shortage) => {
-                return Table {
-                    entries,
-                    without_window: Some(WithoutWindow { gear, shortage }),
-                };
+// A whole sheet, and what it is evaluated by.
+#[derive(Drop)]
+pub struct Session<'a> {
+    sheet: Sheet<'a>,
+    track: Track,
+}
+
+impl<'a> Model for Session<'a> {
+    ghost Value = { spec.Session };
+
+    ghost view = { λ t. session_of t.sheet t.track };
+
+    ghost invariant = { λ t. RunsGood t.sheet × (1000 ≤ t.track.path) × (t.track.path ≤ 4000) };
+}
+
+impl<'a> Session<'a> {
+    pub fn of(sheet: Sheet<'a>, track: Track) -> Session<'a>
+        requires { (1000 ≤ track.path) × (track.path ≤ 4000) }
+        ensures { result ≡ session_of sheet.entry track }
+    {
+        Session { sheet, track }
+    }
+
+    // Whether it has an acceleration run.
+    pub fn any_acceleration(&self) -> bool
+        ensures { result ≡ any_acceleration self.now.sheet }
+    {
+        self.sheet.any_acceleration()
+    }
+
+    // The window of a run kind and a gear.
+    pub fn window(&self, kind: RunKind, gear: u8) -> Result<Four, Shortage>
+        ensures { result ≡ window_in self.now kind gear }
+    {
+        valid_runs::window_of(&self.sheet, self.track.condition(kind, gear))
+    }
+
+    // A gear with an acceleration run, by its acceleration window.
+    #[tactic(auto, using(valid_runs::proofs::Members::window_not_slower), unfolding(crate::specs::Session::by_window))]
+    fn by_window(&self, gear: u8) -> State
+        ensures { result ≡ by_window self.now.track gear (window_in self.now Acceleration gear) }
+    {
+        let track = self.track;
+        match self.window(RunKind::Acceleration, gear) {
+            Ok(window) => {
+                if slow_enough(window, track.rated) {
+                    let gear = Gear {
+                        number: gear,
+                        acceleration: acceleration(window, track.path),
+                    };
+                    State::Remains(Entry { gear, window })
+                } else {
+                    State::Dropped
+                }
             }
-            State::Dropped | State::NoRun => {}
+            Err(shortage) => State::NoWindow(shortage),
         }
     }
-    Table {
-        entries,
-        without_window: None,
+
+    // The state of a gear; `here` says whether it has an acceleration run.
+    #[tactic(auto, unfolding(crate::specs::Session::state_of))]
+    fn state_of(&self, gear: u8, here: bool) -> State
+        requires { here ≡ has_acceleration self.now.sheet gear }
+        ensures { result ≡ state_of self.now gear }
+    {
+        if here {
+            self.by_window(gear)
+        } else {
+            State::NoRun
+        }
+    }
+
+    #[tactic(auto, using(sheet::proofs::Presence::present_at))]
+    pub fn table(&self) -> Table
+        ensures entries { result.entries.items ≡ entries_of self.now }
+        ensures without_window { result.without_window ≡ without_window self.now }
+    {
+        let seen = self.sheet.present();
+        let mut entries = ArrayVec::new();
+        for gear in 1..=16 {
+            match self.state_of(gear, seen[gear as usize]) {
+                State::Remains(entry) => entries.push(entry),
+                State::NoWindow(shortage) => {
+                    return Table {
+                        entries,
+                        without_window: Some(WithoutWindow { gear, shortage }),
+                    };
+                }
+                State::Dropped | State::NoRun => {}
+            }
+        }
+        Table {
+            entries,
+            without_window: None,
+        }
     }
 }

@@ -2,8 +2,8 @@
 use Rattle.std.proofs.Common.{rules, refl, sym, ◌∙◌, arith}
 use mathlib.Core.Logic.{inl, inr}
 use Rattle.session.proofs.Tables.{ready_start, ready_next, ready_skip, ready_stop, ready_end, few_so_far, entries_are, without_at, without_none}
-use Rattle.session.proofs.table_of.Goals as goal
-use Rattle.session.proofs.table_of.Goals.{in-Remains, in-Dropped}
+use Rattle.session.proofs.Session.table.Goals as goal
+use Rattle.session.proofs.Session.table.Goals.{in-Remains, in-Dropped}
 
 pub loop-gear-init : goal.loop-gear-init
 loop-gear-init c = rw c.new-entries.ensures (ready_start _)
