@@ -1,6 +1,6 @@
 -- The rows of a decision, one by one, and what a whole sheet gives for them. Assumes nothing.
-use mathlib.Core.Path.{◌≡◌, sym, ap, ap₂, ◌∙◌}
-use mathlib.Core.Bool.{true, false}
+use mathlib.Core.Path.{◌≡◌, refl, sym, ap, ap₂, ◌∙◌}
+use mathlib.Core.Bool.{Bool, true, false, cond}
 use mathlib.Core.List.{List}
 use Prim.Native.Nat.{ℕ, ◌-◌, ◌≤◌, ◌<◌}
 use lib.ListN.{length}
@@ -17,7 +17,7 @@ use Rattle.sheet.proofs.Examinations.{whole}
 use Rattle.window.specs.declared.Four.{Four}
 use Rattle.valid_runs.specs.ValidRuns.{backgrounds_of}
 use Rattle.reference.specs.declared.Reference.{Reference}
-use Rattle.reference.specs.Reference.{pmr_of, reference_at}
+use Rattle.reference.specs.Reference.{pmr_of, pmr_in_range, reference_at}
 use Rattle.limit.specs.Limits.{limit_of}
 use Rattle.gears.specs.declared.Gear.{Gear}
 use Rattle.gears.specs.Rules.{gear_at, first_not_falling, choice_of}
@@ -44,6 +44,24 @@ decision_is s w e =
     ap (decide_by (sheet_backgrounds s) (sheet_limit s) s) e ∙ ap₂ (λ (b : Backgrounds) (l : Result ℕ Refusal). decide_limited (session_of s (track_of b v)) (pmr_of v.power v.mass) l) backgrounds limit
 
 -- ---- rows 6 and 7
+
+-- the PMR that has reference accelerations
+module _ (q : ℕ) where
+  pub no_pmr : pmr_in_range q ≡ None → out_of_range q ≡ true
+  unfolding pmr_in_range
+  no_pmr e = by (out_of_range q) e
+    where
+      by : (b : Bool) → cond b None (Some q) ≡ None → b ≡ true
+      by true e = refl
+      by false e = cc
+
+  pub its_pmr : (p : ℕ) → pmr_in_range q ≡ Some p → (out_of_range q ≡ false) × (p ≡ q)
+  unfolding pmr_in_range
+  its_pmr p e = by (out_of_range q) e
+    where
+      by : (b : Bool) → cond b None (Some q) ≡ Some p → (b ≡ false) × (p ≡ q)
+      by true e = cc
+      by false e = (refl, cc)
 
 module _ (t : Session) (q limit : ℕ) where
   pub row_6 : out_of_range q ≡ true → decide_whole t q limit ≡ Err refusal.PmrOutOfRange
