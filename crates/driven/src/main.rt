@@ -2,11 +2,9 @@
 // functions: each on a line.
 #![tactic(auto)]
 
-ghost use Rattle.std.specs.Prelude.{◌≤◌};
-
 use gears::{Choice, Gear};
 use level::Reading;
-use reference::Reference;
+use reference::{PmrInRange, Reference};
 use std::io;
 use units::{Hundredths, Tenths};
 use window::{Four, ValidRun};
@@ -64,12 +62,13 @@ fn windows(rt: &impl Print) -> io::Result<()> {
     window(rt, "sides opposed, 2.1 each ", run_of(700, 721), left, left)
 }
 
-// a_urban and a_ref of a PMR in tenths.
-fn reference(rt: &impl Print, q: u16) -> io::Result<()>
-    requires { (50 ≤ q) × (q ≤ 6000) }
-{
-    let a_urban = reference::a_urban(q).0;
-    let a_ref = reference::a_ref(q).0;
+// a_urban and a_ref of a PMR in tenths, if it has them.
+fn reference(rt: &impl Print, q: u32) -> io::Result<()> {
+    let Some(pmr) = PmrInRange::new(q) else {
+        return Ok(());
+    };
+    let a_urban = pmr.a_urban().0;
+    let a_ref = pmr.a_ref().0;
     println!(rt; "PMR {q} {a_urban} {a_ref}")
 }
 
