@@ -16,7 +16,7 @@ use Rattle.units.specs.Tests.{lowest}
 use Rattle.units.proofs.Table.{every, at}
 use Rattle.units.proofs.Lowest.{lowest_alone}
 use Rattle.reference.specs.Reference.{between}
-use Rattle.reference.specs.Place.{Rising, Placed}
+use Rattle.reference.specs.Place.{StartsRise, Placed}
 
 -- ---- the two tests of a definition, as facts
 
@@ -52,8 +52,8 @@ module _ (e from to q : ℕ) where
 -- ---- a table of starts
 
 -- the starts rise. The test is computed
-pub rising : (starts : List ℕ) → T (every (λ i s. leb s (get_or starts (i + 1) s)) 0 starts) → Rising starts
-unfolding Rising
+pub rising : (starts : List ℕ) → T (every (λ i s. leb s (get_or starts (i + 1) s)) 0 starts) → StartsRise starts
+unfolding StartsRise
 rising starts t = IsNonDecreasingBy-from_all_adjacent (λ s. s) starts neighbours
   where
     neighbours : (k d : ℕ) → k + 1 < length starts → get_or starts k d ≤ get_or starts (k + 1) d

@@ -8,7 +8,7 @@ mod starts;
 
 ghost use Rattle.std.specs.Prelude.{◌≡◌, ℕ, ◌≤◌, ◌<◌};
 ghost use Rattle.reference.specs.Reference.{pmr_of, pmr_in_range, a_urban, a_ref, reference_at};
-ghost use Rattle.reference.specs.Place.{Rising, Placed};
+ghost use Rattle.reference.specs.Place.{StartsRise, Placed};
 
 // What follows from PMR.
 #[derive(Clone, Copy)]
@@ -59,7 +59,7 @@ pub fn pmr(power: u16, mass: u16) -> u32
 
 // How many starts are not above q: the place of q among them.
 fn place(starts: &[u16], q: u16) -> usize
-    requires { Rising starts.now }
+    requires { StartsRise starts.now }
     ensures { Placed starts.now q result }
 {
     starts.partition_point(|start| *start <= q)
