@@ -60,15 +60,12 @@ fn next_read(held: Extremes, level: Tenths) -> Extremes
 }
 
 // The pass over the levels of a side, each read once: what it holds after all of them.
-fn extremes_of(levels: &[Tenths]) -> Extremes
-    requires { 1 ≤ length levels.now }
-    ensures { AreExtremes (map (λ level. level.0) levels.now) result }
+fn extremes_of(first: Tenths, others: &[Tenths]) -> Extremes
+    ensures { AreExtremes (map (λ level. level.0) (first ∷ others.now)) result }
 {
-    let mut held = first_read(levels[0]);
-    for level in &levels[1..] {
-        held = next_read(held, *level);
-    }
-    held
+    others
+        .iter()
+        .fold(first_read(first), |held, level| next_read(held, *level))
 }
 
 // The widest span of four neighbours, 2.0 dB.
@@ -80,7 +77,7 @@ const WIDEST: Tenths = Tenths(20);
 fn spans(a: Tenths, b: Tenths, c: Tenths, d: Tenths) -> bool
     ensures { result ≡ spanned a.0 b.0 c.0 d.0 }
 {
-    let held = extremes_of(&[a, b, c, d]);
+    let held = extremes_of(a, &[b, c, d]);
     let limit = held.least.0 as u32 + WIDEST.0 as u32;
     (held.greatest.0 as u32) <= limit
 }
