@@ -69,7 +69,7 @@ fn select(session: &Session<'_>, table: &Table, choice: Choice) -> Result<Chosen
 }
 
 // Rows 8 to 10, from the table of the session.
-#[tactic(auto, using(gears::proofs::Places::below_some, gears::proofs::Places::below_none, crate::proofs::Decisions::row_8, crate::proofs::Decisions::rows_9_and_10, crate::proofs::Selections::chosen_inside, crate::proofs::Selections::chosen_straddled), unfolding(gears::specs::Rules::empty_gear, gears::specs::Rules::gear_at, crate::specs::Decision::selected_in, crate::specs::Decision::finish_by))]
+#[tactic(auto, using(units::proofs::Below::below_some, units::proofs::Below::below_none, crate::proofs::Decisions::row_8, crate::proofs::Decisions::rows_9_and_10, crate::proofs::Selections::chosen_inside, crate::proofs::Selections::chosen_straddled), unfolding(gears::specs::Rules::empty_gear, gears::specs::Rules::gear_at, crate::specs::Decision::selected_in, crate::specs::Decision::finish_by))]
 fn decide_table(
     session: &Session<'_>,
     reference: Reference,

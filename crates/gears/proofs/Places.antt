@@ -1,4 +1,4 @@
--- What a search over the places of gears answers. Assumes nothing.
+-- What the searches over the places of gears answer. Assumes nothing.
 use Rattle.std.specs.Prelude.{Option, Some, None}
 use mathlib.Core.Path.{◌≡◌, refl, sym, ◌∙◌}
 use mathlib.Core.Bool.{Bool, true, false, cond, true≢false}
@@ -7,34 +7,12 @@ use Prim.Native.Nat.{ℕ, ◌+◌, ◌-◌, ◌≤◌, ◌<◌}
 use native.Mathlib.Omega.{arith}
 use lib.Dec.{leb, ltb, eqb}
 use lib.ListN.{length}
-use borrow.Author.Tests.{lt-ltb, le-ltb}
-use Rattle.units.specs.Tests.{lowest, below}
 use borrow.Author.Tests.{eqb-true, eqb-false, ne_eqb, ltb-true, ltb-false}
-use Rattle.units.proofs.Lowest.{first_is_lowest, none_by_lowest, found}
+use Rattle.units.proofs.Lowest.{found}
 use Rattle.units.proofs.Tests.{by_test}
 use Rattle.units.proofs.Last.{Last, last}
 use Rattle.gears.specs.declared.Gear.{Gear}
 use Rattle.gears.specs.Rules.{a, first_not_falling, i_of, j_of}
-
--- a search from the first place on, which answers the first that passes the test
-pub first_below_end : (test : ℕ → Bool) (end : ℕ) (r : Option ℕ) → (r ≡ None → (k : ℕ) → k < end → test k ≡ false) → ((i : ℕ) → r ≡ Some i → (i < end) × (test i ≡ true) × ((k : ℕ) → k < i → test k ≡ false)) → r ≡ below end (lowest test end 0)
-unfolding below
-first_below_end test end None none some =
-    let past : lowest test end 0 ≡ 0 + end = none_by_lowest test end 0 (λ k l m. none refl k (omega arith)) in
-    rw (le-ltb (lowest test end 0) end (omega arith))
-first_below_end test end (Some i) none some =
-    let s = some i refl in
-    let at : lowest test end 0 ≡ i = first_is_lowest test end 0 i (record { least = omega arith; most = omega arith; holds = s.1; before = λ k l m. s.2 k m }) in
-    rw (at, lt-ltb i end s.0)
-
--- what such an answer says
-pub below_some : (end n i : ℕ) → below end n ≡ Some i → (n ≡ i) × (i < end)
-unfolding below
-below_some end n i = by_test (λ o. o ≡ Some i → (n ≡ i) × (i < end)) (ltb n end) _ _ (λ t e. let same : n ≡ i = cc in (same, omega (arith, ltb-true n end t))) (λ t e. absurd (cc))
-
-pub below_none : (end n : ℕ) → below end n ≡ None → end ≤ n
-unfolding below
-below_none end n = by_test (λ o. o ≡ None → end ≤ n) (ltb n end) _ _ (λ t e. absurd (cc)) (λ t e. ltb-false n end t)
 
 -- the first place that does not fall is a place
 pub first_most : (gs : List Gear) → first_not_falling gs ≤ length gs - 1

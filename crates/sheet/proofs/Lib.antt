@@ -1,5 +1,4 @@
 pub mod Examinations
-pub mod Finding
 pub mod Layouts
 pub mod Presence
 mod Examples

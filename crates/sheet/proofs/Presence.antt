@@ -16,7 +16,7 @@ use Rattle.units.proofs.Tests.{marks_long, marks_at}
 use Rattle.record.specs.Records.{records, record_at, byte}
 use Rattle.record.proofs.Layouts.{run_ranges}
 use Rattle.sheet.specs.Sheet.{RunsGood, has_byte, accelerates, any_acceleration, has_acceleration, present_of}
-use Rattle.sheet.proofs.Finding.{is_some-below}
+use Rattle.units.proofs.Below.{is_some_below}
 
 -- a search for the byte of an acceleration run tells whether there is one
 pub any_found : (s : List ℕ) (kind : ℕ) → 2 ≤ records s → kind ≡ 2 → is_some (below (records s - 1) (lowest (has_byte s 0 kind) (records s - 1 - 1) 1)) ≡ any_acceleration s
@@ -24,7 +24,7 @@ unfolding any_acceleration
 any_found s kind two e =
     let runs : records s - 1 - 1 ≡ records s - 2 = omega arith in
     let end : records s - 1 ≡ 1 + (records s - 2) = omega arith in
-    is_some-below (records s - 1) _ ∙ ap₂ ltb (ap₂ (λ (k n : ℕ). lowest (has_byte s 0 k) n 1) e runs) end ∙ some-lowest (accelerates s) (records s - 2) 1
+    is_some_below (records s - 1) _ ∙ ap₂ ltb (ap₂ (λ (k n : ℕ). lowest (has_byte s 0 k) n 1) e runs) end ∙ some-lowest (accelerates s) (records s - 2) 1
 
 -- a gear that a run has is at most 16
 pub gear_below : (s : List ℕ) (i : ℕ) → RunsGood s → 1 ≤ i → i < records s - 1 → byte (record_at s i) 1 < 17

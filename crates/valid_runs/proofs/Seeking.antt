@@ -11,7 +11,7 @@ use Rattle.units.specs.Tests.{lowest, below}
 use Rattle.units.proofs.Lowest.{found}
 use Rattle.record.specs.Records.{records, record_at, kind_byte, run_in}
 use Rattle.sheet.specs.Sheet.{has_byte}
-use Rattle.sheet.proofs.Finding.{some_below, none_below}
+use Rattle.units.proofs.Below.{below_some, below_none}
 use Rattle.refusal.specs.declared.Shortage.{Shortage}
 use Rattle.refusal.specs.declared.Shortage.TheVariants.{TooWide}
 use Rattle.window.specs.declared.ValidRun.{ValidRun}
@@ -79,14 +79,14 @@ module _ (s : List ℕ) (o : Condition) where
 
   pub next_range : (end i j : ℕ) → Some j ≡ next end i → (i ≤ j) × (j < end)
   next_range end i j e =
-      let b = some_below end _ j e in
+      let b = below_some end _ j (sym e) in
       let f = found (has_byte s 1 o.gear) (end - i) i in
       (omega (arith, b.0, f.least), omega (arith, b.0, b.1))
 
   pub sought_next : (end i j : ℕ) (carried : Bool) (runs : List ValidRun) → Some j ≡ next end i → Sought end runs carried i → Sought end runs carried j
   sought_next end i j carried runs e g =
       let r = next_range end i j e in
-      let b = some_below end _ j e in
+      let b = below_some end _ j (sym e) in
       let f = found (has_byte s 1 o.gear) (end - i) i in
       passed_to end carried runs i j r.0 (omega (arith, r.1)) (λ n l m. f.before n l (omega (arith, b.0))) g
 
@@ -98,7 +98,7 @@ module _ (s : List ℕ) (o : Condition) where
   -- where there is none, every record has been passed
   pub sought_last : (end i : ℕ) (carried : Bool) (runs : List ValidRun) → i ≤ end → None ≡ next end i → Sought end runs carried i → Sought end runs carried end
   sought_last end i carried runs h e g =
-      let b = none_below end _ e in
+      let b = below_none end _ (sym e) in
       let f = found (has_byte s 1 o.gear) (end - i) i in
       passed_to end carried runs i end h (omega arith) (λ n l m. f.before n l (omega (arith, b))) g
 

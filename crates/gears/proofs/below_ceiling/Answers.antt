@@ -1,7 +1,7 @@
 -- The places passed are not below the ceiling, and the one answered is. Assumes nothing.
 use Rattle.std.proofs.Common.{rules}
 use Rattle.gears.specs.Rules.{a, gear_at, empty_gear, first_below}
-use Rattle.gears.proofs.Places.{first_below_end}
+use Rattle.units.proofs.Below.{first_below_end}
 use Rattle.gears.proofs.below_ceiling.Goals as goal
 
 pub returns : goal.returns

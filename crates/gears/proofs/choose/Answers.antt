@@ -1,7 +1,7 @@
 -- Rule by rule. Assumes nothing.
 use Rattle.std.proofs.Common.{sym, ap, ◌∙◌, Some, arith}
 use Rattle.gears.specs.declared.Choice.TheVariants.{One}
-use Rattle.gears.proofs.Places.{below_some, below_none}
+use Rattle.units.proofs.Below.{below_some, below_none}
 use Rattle.gears.proofs.Choices.{no_gear, rule_1, rule_2, rules_3_to_5}
 use Rattle.gears.proofs.choose.Goals as goal
 

@@ -2,7 +2,7 @@
 use Rattle.std.proofs.Common.{arith}
 use Rattle.std.proofs.lemmas.Grind.{common_steps}
 use Rattle.gears.specs.Rules.{a, gear_at, empty_gear, first_not_falling}
-use Rattle.gears.proofs.Places.{first_below_end}
+use Rattle.units.proofs.Below.{first_below_end}
 use Rattle.gears.proofs.first_not_falling.Goals as goal
 
 pub returns : goal.returns

@@ -2,7 +2,7 @@
 use Rattle.std.proofs.Common.{ℕ, arith, rules, tests, not, ap, ◌∙◌}
 use Rattle.units.specs.Tests.{lowest, below}
 use Rattle.sheet.specs.Sheet.{good_at, lowest_broken_by}
-use Rattle.sheet.proofs.Finding.{below_from_find}
+use Rattle.units.proofs.Below.{below_from_find}
 use Rattle.sheet.proofs.lowest_broken.Goals as goal
 
 pub returns : goal.returns

@@ -4,7 +4,7 @@ use Rattle.std.proofs.lemmas.Iterator.{serves_from_Range}
 use Rattle.record.specs.Records.{records}
 use Rattle.record.proofs.Shown.{byte_of}
 use Rattle.sheet.specs.Sheet.{has_byte}
-use Rattle.sheet.proofs.Finding.{below_from_find}
+use Rattle.units.proofs.Below.{below_from_find}
 use Rattle.sheet.proofs.next_with.Goals as goal
 
 pub find-requires-clause-callable : goal.find-requires-clause-callable
