@@ -2,7 +2,7 @@
 // pattern of each level in four, then the limit in two, low byte first.
 #![tactic(auto)]
 
-use motorcycle::{Judged, LevelRefusal};
+use motorcycle::{JudgedMean, LevelRefusal};
 use refusal::Numbered;
 use std::fs::File;
 use std::io;
@@ -16,7 +16,7 @@ fn print_line(rt: &impl Print, word: &str, m: u64, n: u64) -> io::Result<()> {
 }
 
 // The mean and 1 if it passes, 0 if not; or the number and the place of the refusal.
-fn print_verdict(rt: &impl Print, verdict: Result<Judged, LevelRefusal>) -> io::Result<()> {
+fn print_verdict(rt: &impl Print, verdict: Result<JudgedMean, LevelRefusal>) -> io::Result<()> {
     match verdict {
         Ok(judged) => print_line(rt, "OK", judged.mean.0 as u64, judged.pass as u64),
         Err(refusal) => print_line(
@@ -29,7 +29,7 @@ fn print_verdict(rt: &impl Print, verdict: Result<Judged, LevelRefusal>) -> io::
 }
 
 // The verdict on the set in these bytes.
-fn verdict_in(bytes: &[u8; SIZE]) -> Result<Judged, LevelRefusal> {
+fn verdict_in(bytes: &[u8; SIZE]) -> Result<JudgedMean, LevelRefusal> {
     let patterns = [
         units::number32(bytes, 0),
         units::number32(bytes, 4),

@@ -9,7 +9,7 @@ use borrow.Author.Tests.{ltb-true, ltb-false, leb-true, leb-false, le-leb, lt-le
 use Rattle.units.specs.Tests.{lowest, below, FirstOf, NoneOf}
 use Rattle.units.proofs.Lowest.{first_is_lowest, lowest_is_first, none_by_lowest, lowest_by_none}
 use Rattle.motorcycle.specs.declared.Levels.{Levels}
-use Rattle.motorcycle.specs.declared.Judged.{Judged}
+use Rattle.motorcycle.specs.declared.JudgedMean.{JudgedMean}
 use Rattle.motorcycle.specs.declared.LevelRefusal.TheVariants.{LevelOutOfRange, SideFarApart}
 use Rattle.motorcycle.specs.Verdict.{Verdict, outside, side_far_apart, first_outside, first_far_apart, verdict_of, verdict_number}
 use Rattle.motorcycle.specs.Causes.{Cause}
@@ -61,7 +61,7 @@ module _ (x : Levels) (limit : ℕ) where
   none_outside_range none = lt-leb (lowest (outside x) 4 1) 4 (omega (arith, none_by_lowest (outside x) 4 1 none))
 
   -- what is judged, by its mean and whether it passes
-  made : (judged : Judged) {q : ℕ} {b : Bool} → judged.mean.0 ≡ q → judged.pass ≡ b → record { mean = record { 0 = q }; pass = b } ≡ judged
+  made : (judged : JudgedMean) {q : ℕ} {b : Bool} → judged.mean.0 ≡ q → judged.pass ≡ b → record { mean = record { 0 = q }; pass = b } ≡ judged
   made judged m p = rw (sym m, sym p) refl
 
   pub on_its_cause : (v : Verdict) → Cause x limit v → verdict_of x limit ≡ v
@@ -94,7 +94,7 @@ module _ (x : Levels) (limit : ℕ) where
 
 -- ---- the number 0 is that of levels that are judged, and of no refusal
 
-pub judged_by_0 : (v : Verdict) → verdict_number v ≡ 0 → (judged : Judged) × (v ≡ Ok judged)
+pub judged_by_0 : (v : Verdict) → verdict_number v ≡ 0 → (judged : JudgedMean) × (v ≡ Ok judged)
 judged_by_0 (Ok judged) e = (judged, refl)
 judged_by_0 (Err (LevelOutOfRange n)) e = absurd (omega arith)
 judged_by_0 (Err (SideFarApart side)) e = absurd (omega arith)

@@ -8,7 +8,7 @@ use Rattle.units.specs.Tests.{lowest}
 use Rattle.level.specs.Reading.{in_range}
 use Rattle.level.specs.Level.{tenths_of}
 use Rattle.motorcycle.specs.declared.Levels.{Levels}
-use Rattle.motorcycle.specs.declared.Judged.{Judged}
+use Rattle.motorcycle.specs.declared.JudgedMean.{JudgedMean}
 use Rattle.motorcycle.specs.declared.LevelRefusal.{LevelRefusal}
 use Rattle.motorcycle.specs.declared.LevelRefusal.TheVariants.{LevelOutOfRange, SideFarApart}
 
@@ -56,7 +56,7 @@ quarters_of x = reduced_of x.first + reduced_of x.second + reduced_of x.third + 
 
 -- what four levels and a limit give
 abbrev pub Verdict : Type 0
-Verdict = Result Judged LevelRefusal
+Verdict = Result JudgedMean LevelRefusal
 
 -- 22 comes before 23: all four levels are asked for their range before any side is compared. Otherwise the levels are judged, and the mean
 -- passes if it is not above the limit, which is in whole dB.

@@ -27,7 +27,7 @@ pub struct Quarters(pub u16);
 
 // What is judged of four levels: their mean, and whether it passes.
 #[derive(Clone, Copy, Debug, PartialEq, Eq)]
-pub struct Judged {
+pub struct JudgedMean {
     pub mean: Quarters,
     pub pass: bool,
 }
@@ -90,7 +90,7 @@ fn far_apart(a: u16, b: u16) -> bool
 }
 
 // The verdict on four levels against a limit in whole dB(A). The mean is judged at 32 bits, since four times a limit may not fit into 16.
-pub fn judge(levels: Levels, limit: u16) -> Result<Judged, LevelRefusal>
+pub fn judge(levels: Levels, limit: u16) -> Result<JudgedMean, LevelRefusal>
     ensures { result ≡ verdict_of levels limit }
 {
     if let Some(number) = first_outside(levels) {
@@ -107,7 +107,7 @@ pub fn judge(levels: Levels, limit: u16) -> Result<Judged, LevelRefusal>
         return Err(LevelRefusal::SideFarApart(2));
     }
     let mean = (a - 1) + (b - 1) + (c - 1) + (d - 1);
-    Ok(Judged {
+    Ok(JudgedMean {
         mean: Quarters(mean),
         pass: mean as u32 <= 4 * limit as u32,
     })
