@@ -1,13 +1,14 @@
 -- A verdict is given exactly on its cause. Assumes nothing.
 use mathlib.Core.Path.{◌≡◌, refl, sym, ap}
-use mathlib.Core.Bool.{Bool, true, false, cond}
+use mathlib.Core.Bool.{Bool, true, false}
 use Prim.Native.Nat.{ℕ, ◌≤◌, ◌<◌}
 use native.Mathlib.Omega.{arith}
-use lib.Dec.{leb, ltb}
-use Rattle.std.specs.Prelude.{Option, Some, None, Ok, Err}
-use borrow.Author.Tests.{ltb-true, ltb-false, leb-true, leb-false, le-leb, lt-leb}
+use lib.Dec.{leb}
+use Rattle.std.specs.Prelude.{Some, None, Ok, Err}
+use borrow.Author.Tests.{leb-true, leb-false, le-leb, lt-leb}
 use Rattle.units.specs.Tests.{lowest, below, FirstOf, NoneOf}
 use Rattle.units.proofs.Lowest.{first_is_lowest, lowest_is_first, none_by_lowest, lowest_by_none}
+use Rattle.units.proofs.Below.{below_some, below_none}
 use Rattle.motorcycle.specs.declared.Levels.{Levels}
 use Rattle.motorcycle.specs.declared.JudgedMean.{JudgedMean}
 use Rattle.motorcycle.specs.declared.LevelRefusal.TheVariants.{LevelOutOfRange, SideFarApart}
@@ -36,22 +37,10 @@ module _ (x : Levels) {r : ℕ} where
 -- what a search of the four levels says that finds one, and that finds none
 module _ (x : Levels) where
   pub one_outside : {n : ℕ} → Some n ≡ below 5 (first_outside x) → FirstOf (outside x) 4 1 n
-  unfolding below
-  one_outside e = by _ (ltb (first_outside x) 5) refl e
-    where
-      by : (n : ℕ) (b : Bool) → ltb (first_outside x) 5 ≡ b → Some n ≡ cond b (Some (first_outside x)) None → FirstOf (outside x) 4 1 n
-      by n true f e =
-          let same : n ≡ first_outside x = cc in
-          is_first_outside x same (omega (arith, same, ltb-true (first_outside x) 5 f))
-      by n false f e = absurd (let no : ◌≡◌ {A = ℕ} 0 1 = cc in omega arith)
+  one_outside e = let found = below_some 5 (first_outside x) _ (sym e) in is_first_outside x (sym found.0) (omega (arith, found.1))
 
   pub no_outside : None ≡ below 5 (first_outside x) → NoneOf (outside x) 4 1
-  unfolding below
-  no_outside e = by (ltb (first_outside x) 5) refl e
-    where
-      by : (b : Bool) → ltb (first_outside x) 5 ≡ b → ◌≡◌ {A = Option ℕ} None (cond b (Some (first_outside x)) None) → NoneOf (outside x) 4 1
-      by true f e = absurd (let no : ◌≡◌ {A = ℕ} 0 1 = cc in omega arith)
-      by false f e = none_outside x refl (omega (arith, ltb-false (first_outside x) 5 f))
+  no_outside e = none_outside x refl (below_none 5 (first_outside x) (sym e))
 
 module _ (x : Levels) (limit : ℕ) where
   -- ---- on its cause
