@@ -13,8 +13,7 @@ pub const ROOM: usize = 276;
 
 // The 13 fields of the result record as they are printed, pass last.
 #[tactic(auto, unfolding(result::specs::Result::fields_of, urban::specs::Urban::flag))]
-fn fields_of(res: &[u8]) -> [u64; 13]
-    requires { 32 ≤ length res.now }
+fn fields_of(res: &[u8; 32]) -> [u64; 13]
     ensures { result ≡ fields_of (outcome_in res.now) }
 {
     let o = result::read_back(res);
@@ -38,9 +37,8 @@ fn fields_of(res: &[u8]) -> [u64; 13]
 // The line for an answer and its result buffer, with its line feed, at the front of `out`; answers how many bytes it takes. The bytes behind
 // it stay.
 #[tactic(auto, unfolding(crate::specs::Line::line_of, crate::specs::Line::accepted_word, crate::specs::Line::refused_word))]
-fn line(answer: Result<(), Refusal>, res: &[u8], out: &mut [u8]) -> usize
-    requires record_long { 32 ≤ length res.now }
-    requires room { 276 ≤ length out.old }
+fn line(answer: Result<(), Refusal>, res: &[u8; 32], out: &mut [u8]) -> usize
+    requires { 276 ≤ length out.old }
     ensures size { (result ≡ length (line_of answer res.now)) × (result ≤ 276) }
     ensures bytes { out.new ≡ onto (line_of answer res.now) out.old }
 {
