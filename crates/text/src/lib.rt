@@ -3,7 +3,9 @@
 
 ghost use Rattle.std.specs.Prelude.{◌≡◌, ◌+◌, ◌*◌, ◌≤◌, ◌<◌, length, set};
 ghost use Rattle.std.proofs.lemmas.List.Edits.{sets};
-ghost use Rattle.text.specs.Text.{digits_of, line_with, onto};
+ghost use Rattle.text.specs.Text.{decimal_of, line_with, onto};
+
+use itoa::Buffer;
 
 // The byte b at `at`, and the place after it.
 fn put(b: u8, out: &mut [u8], at: usize) -> usize
@@ -26,21 +28,17 @@ fn put_word(word: &[u8], out: &mut [u8]) -> usize
     word.len()
 }
 
-// The digits of n, the last `most` at the most. Recursive, since the most significant digit goes first.
-#[tactic(auto, using(crate::proofs::Digits::none, crate::proofs::Digits::one_digit, crate::proofs::Digits::more_digits, crate::proofs::Stores::sets_append))]
-fn put_digits(n: u64, most: usize, out: &mut [u8], at: usize) -> usize
-    requires { at + most ≤ length out.old }
-    ensures end { (result ≡ at + length (digits_of most n)) × (result ≤ at + most) }
-    ensures written { out.new ≡ sets out.old at (digits_of most n) }
+// The digits of n from `at` on, and the place after them.
+fn put_number(n: u64, out: &mut [u8], at: usize) -> usize
+    requires { at + 20 ≤ length out.old }
+    ensures end { (result ≡ at + length (decimal_of n)) × (result ≤ at + 20) }
+    ensures written { out.new ≡ sets out.old at (decimal_of n) }
 {
-    if most == 0 {
-        at
-    } else if n < 10 {
-        put(b'0' + n as u8, out, at)
-    } else {
-        let end = put_digits(n / 10, most - 1, out, at);
-        put(b'0' + (n % 10) as u8, out, end)
-    }
+    let mut buffer = Buffer::new();
+    let digits = buffer.format(n).as_bytes();
+    let end = at + digits.len();
+    out[at..end].copy_from_slice(digits);
+    end
 }
 
 // A line at the front of `out`: a word, each number after a space, and a line feed; answers how many bytes it takes. The bytes behind it stay.
@@ -55,7 +53,7 @@ pub fn put_line(word: &[u8], numbers: &[u64], out: &mut [u8]) -> usize
     let mut end = put_word(word, out);
     for number in numbers {
         end = put(b' ', out, end);
-        end = put_digits(*number, 20, out, end);
+        end = put_number(*number, out, end);
     }
     put(b'\n', out, end)
 }

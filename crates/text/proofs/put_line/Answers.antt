@@ -5,7 +5,7 @@ use Prim.Native.Nat.{ℕ, ◌+◌}
 use native.Mathlib.Omega.{arith}
 use lib.ListN.{length, take, get_or, length-append}
 use lib.Seq.{sets}
-use Rattle.text.specs.Text.{digits_of, spaced, line_with}
+use Rattle.text.specs.Text.{decimal_of, spaced, line_with}
 use Rattle.text.proofs.Digits.{one_more, all_of, parted}
 use Rattle.text.proofs.Stores.{behind, front}
 use Rattle.text.proofs.put_line.Goals as goal
@@ -16,10 +16,10 @@ loop-number-preserved c =
     let w = c.put_word-end in
     let numbers = c.args.numbers.now in
     let text = spaced [] (take l.number-index numbers) in
-    let number = digits_of 20 (get_or numbers l.number-index 0) in
+    let number = decimal_of (get_or numbers l.number-index 0) in
     let more = one_more [] numbers l.number-index (omega arith) in
     let space = c.put-end in
-    let digits = c.put_digits-end in
+    let digits = c.put_number-end in
     let spaced_off = length-append text (32 ∷ []) in
     record {
       most = omega arith;
