@@ -12,7 +12,7 @@ use Rattle.units.proofs.Below.{below_some, below_none}
 use Rattle.motorcycle.specs.declared.Levels.{Levels}
 use Rattle.motorcycle.specs.declared.JudgedMean.{JudgedMean}
 use Rattle.motorcycle.specs.declared.LevelRefusal.TheVariants.{LevelOutOfRange, SideFarApart}
-use Rattle.motorcycle.specs.Verdict.{Verdict, outside, side_far_apart, first_outside, first_far_apart, verdict_of, verdict_number}
+use Rattle.motorcycle.specs.Verdict.{Verdict, outside, side_far_apart, first_outside, first_far_apart, verdict_of, verdict_number, verdict_place}
 use Rattle.motorcycle.specs.Causes.{Cause}
 
 -- ---- what the numbers of the definition say of the four levels and the two sides
@@ -87,3 +87,6 @@ pub judged_by_0 : (v : Verdict) → verdict_number v ≡ 0 → (judged : JudgedM
 judged_by_0 (Ok judged) e = (judged, refl)
 judged_by_0 (Err (LevelOutOfRange n)) e = absurd (omega arith)
 judged_by_0 (Err (SideFarApart side)) e = absurd (omega arith)
+
+pub judged_at_0 : (judged : JudgedMean) → (verdict_number (Ok judged) ≡ 0) × (verdict_place (Ok judged) ≡ 0)
+judged_at_0 judged = (refl, refl)
