@@ -2,6 +2,8 @@
 // functions: each on a line.
 #![tactic(auto)]
 
+ghost use Rattle.std.specs.Prelude.{◌≤◌};
+
 use gears::{Choice, Gear};
 use level::Reading;
 use reference::{PmrInRange, Reference};
@@ -62,11 +64,11 @@ fn windows(rt: &impl Print) -> io::Result<()> {
     window(rt, "sides opposed, 2.1 each ", run_of(700, 721), left, left)
 }
 
-// a_urban and a_ref of a PMR in tenths, if it has them.
-fn reference(rt: &impl Print, q: u32) -> io::Result<()> {
-    let Some(pmr) = PmrInRange::new(q) else {
-        return Ok(());
-    };
+// a_urban and a_ref of a PMR in tenths.
+fn reference(rt: &impl Print, q: u16) -> io::Result<()>
+    requires { (50 ≤ q) × (q ≤ 6000) }
+{
+    let pmr = PmrInRange::of(q);
     let a_urban = pmr.a_urban().0;
     let a_ref = pmr.a_ref().0;
     println!(rt; "PMR {q} {a_urban} {a_ref}")

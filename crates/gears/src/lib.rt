@@ -78,8 +78,7 @@ struct Best {
     distance: Hundredths,
 }
 
-// The place that rule 2 takes, if it takes one. A loop, since the lower number has to win a tie, and the contract of `min_by_key` does not say which of
-// two equals it takes.
+// The place that rule 2 takes, if it takes one. Only a gear that is nearer takes the place of the best so far, so the lower number wins a tie.
 fn nearest_place(gears: &[Gear], reference: Reference) -> Option<usize>
     ensures { result ≡ below (length gears.now) (nearest reference.a_ref.0 gears.now) }
 {

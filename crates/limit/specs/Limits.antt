@@ -5,6 +5,7 @@ use Rattle.refusal.specs.declared.Refusal.{Refusal}
 use Rattle.refusal.specs.declared.Refusal.TheVariants.{NoLimitForN1, NoLimitEntry}
 use Rattle.record.specs.declared.Category.{Category}
 use Rattle.record.specs.declared.Category.TheVariants.{M1, N1}
+use Rattle.record.specs.declared.Category.TheVariants as category
 use Rattle.record.specs.declared.Vehicle.{Vehicle}
 use Rattle.record.specs.Records.{within, is_looked_up}
 
@@ -41,6 +42,7 @@ table_limit q phase low_car = get_or limit_table (3 * class_of q low_car + (phas
 abbrev pub is_n1 : Category → Bool
 is_n1 M1 = false
 is_n1 N1 = true
+is_n1 (category.Other b) = false
 
 -- row 11: the limit is 0 and the category N1, for which none is looked up
 abbrev pub no_limit_for_n1 : Vehicle → Bool

@@ -51,7 +51,7 @@ pub fn limit_of(v: Vehicle, pmr: u32) -> Result<u16, Refusal>
     }
     match v.category {
         Category::N1 => Err(Refusal::NoLimitForN1),
-        Category::M1 if !has_entry(v.phase, v.low_car) => Err(Refusal::NoLimitEntry),
-        Category::M1 => Ok(table_limit(pmr, v.phase, v.low_car)),
+        _ if !has_entry(v.phase, v.low_car) => Err(Refusal::NoLimitEntry),
+        _ => Ok(table_limit(pmr, v.phase, v.low_car)),
     }
 }

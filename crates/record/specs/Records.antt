@@ -11,11 +11,14 @@ use Rattle.level.specs.Reading.{reading_of}
 use Rattle.record.specs.declared.Backgrounds.{Backgrounds}
 use Rattle.record.specs.declared.Category.{Category}
 use Rattle.record.specs.declared.Category.TheVariants.{M1, N1}
+use Rattle.record.specs.declared.Category.TheVariants as category
 use Rattle.record.specs.declared.StartLine.{StartLine}
 use Rattle.record.specs.declared.StartLine.TheVariants.{Aa, Pp}
+use Rattle.record.specs.declared.StartLine.TheVariants as line
 use Rattle.record.specs.declared.Vehicle.{Vehicle}
 use Rattle.record.specs.declared.RunKind.{RunKind}
 use Rattle.record.specs.declared.RunKind.TheVariants.{Acceleration, ConstantSpeed}
+use Rattle.record.specs.declared.RunKind.TheVariants as kind
 use Rattle.record.specs.declared.Run.{Run}
 use Rattle.record.specs.declared.Closing.{Closing}
 
@@ -98,13 +101,13 @@ vehicle_tests unwritten asked r =
 unfoldable pub vehicle_good : List ℕ → Bool
 vehicle_good r = all_of (vehicle_tests looked_up right_good r)
 
--- byte 1: 2 is N1, and 1, the only other one in a good record, is M1
+-- byte 1: 1 is M1 and 2 is N1; a good record has no other
 abbrev pub category_of : ℕ → Category
-category_of b = cond (eqb b 2) N1 M1
+category_of b = cond (eqb b 1) M1 (cond (eqb b 2) N1 (category.Other b))
 
--- byte 2: 0 is AA', and 1, the only other one in a good record, is PP'
+-- byte 2: 0 is AA' and 1 is PP'; a good record has no other
 abbrev pub start_line_of : ℕ → StartLine
-start_line_of b = cond (eqb b 0) Aa Pp
+start_line_of b = cond (eqb b 0) Aa (cond (eqb b 1) Pp (line.Other b))
 
 unfoldable pub vehicle_in : List ℕ → Vehicle
 vehicle_in r =
@@ -125,6 +128,7 @@ vehicle_in r =
 abbrev pub c_of : StartLine → ℕ
 c_of Aa = 2000
 c_of Pp = 1000
+c_of (line.Other b) = 1000
 
 abbrev pub path_of : Vehicle → ℕ
 path_of v = c_of v.start_line + v.length
@@ -162,13 +166,14 @@ run_tests r =
 unfoldable pub run_good : List ℕ → Bool
 run_good r = all_of (run_tests r)
 
--- the kinds of a run by byte 0: 2 is an acceleration, and 3, the only other one in a good record, a constant speed
+-- the kinds of a run by byte 0: 2 is an acceleration and 3 a constant speed; a good record has no other
 abbrev pub kind_byte : RunKind → ℕ
 kind_byte Acceleration = 2
 kind_byte ConstantSpeed = 3
+kind_byte (kind.Other b) = b
 
 abbrev pub kind_of : ℕ → RunKind
-kind_of b = cond (eqb b 2) Acceleration ConstantSpeed
+kind_of b = cond (eqb b 2) Acceleration (cond (eqb b 3) ConstantSpeed (kind.Other b))
 
 unfoldable pub run_in : List ℕ → Run
 run_in r =

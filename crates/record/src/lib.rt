@@ -99,44 +99,46 @@ fn backgrounds_in(r: &[u8], left: usize, right: usize) -> Backgrounds
 
 // ---- the vehicle record
 
-// The category of the vehicle.
+// The category of the vehicle. A good record has M1 or N1.
 #[derive(Clone, Copy, Debug, PartialEq, Eq)]
 pub enum Category {
     M1,
     N1,
+    // another byte
+    Other(u8),
 }
 
-impl Category {
-    // A byte of 2 is N1; the only other one in a good record is 1, M1.
-    fn of(byte: u8) -> Category
-        ensures { result ≡ category_of byte }
-    {
-        if byte == 2 {
-            Category::N1
-        } else {
-            Category::M1
+impl From<u8> for Category {
+    ghost from_gives = { λ byte category. category ≡ category_of byte };
+
+    fn from(byte: u8) -> Category {
+        match byte {
+            1 => Category::M1,
+            2 => Category::N1,
+            _ => Category::Other(byte),
         }
     }
 }
 
-// The line where the acceleration starts.
+// The line where the acceleration starts. A good record has AA' or PP'.
 #[derive(Clone, Copy, Debug, PartialEq, Eq)]
 pub enum StartLine {
     // AA'
     Aa,
     // PP'
     Pp,
+    // another byte
+    Other(u8),
 }
 
-impl StartLine {
-    // A byte of 0 is AA'; the only other one in a good record is 1, PP'.
-    fn of(byte: u8) -> StartLine
-        ensures { result ≡ start_line_of byte }
-    {
-        if byte == 0 {
-            StartLine::Aa
-        } else {
-            StartLine::Pp
+impl From<u8> for StartLine {
+    ghost from_gives = { λ byte line. line ≡ start_line_of byte };
+
+    fn from(byte: u8) -> StartLine {
+        match byte {
+            0 => StartLine::Aa,
+            1 => StartLine::Pp,
+            _ => StartLine::Other(byte),
         }
     }
 }
@@ -192,8 +194,8 @@ pub fn vehicle_in(r: &[u8]) -> Vehicle
     ensures { result ≡ vehicle_in r.now }
 {
     Vehicle {
-        category: Category::of(r[1]),
-        start_line: StartLine::of(r[2]),
+        category: Category::from(r[1]),
+        start_line: StartLine::from(r[2]),
         power: units::number16(r, 4),
         mass: units::number16(r, 6),
         length: units::number16(r, 8),
@@ -212,17 +214,19 @@ pub fn path_of(v: Vehicle) -> u16
 {
     match v.start_line {
         StartLine::Aa => 2000 + v.length,
-        StartLine::Pp => 1000 + v.length,
+        StartLine::Pp | StartLine::Other(_) => 1000 + v.length,
     }
 }
 
 // ---- a run record
 
-// The kinds of a run.
+// The kind of a run. A good record has one of the first two.
 #[derive(Clone, Copy, Debug, PartialEq, Eq)]
 pub enum RunKind {
     Acceleration,
     ConstantSpeed,
+    // another byte
+    Other(u8),
 }
 
 impl RunKind {
@@ -233,17 +237,21 @@ impl RunKind {
         match self {
             RunKind::Acceleration => Record::ACCELERATION,
             RunKind::ConstantSpeed => Record::CONSTANT_SPEED,
+            RunKind::Other(byte) => byte,
         }
     }
+}
 
-    // The kind of a good run record by its byte 0.
-    fn of(byte: u8) -> RunKind
-        ensures { result ≡ kind_of byte }
-    {
+impl From<u8> for RunKind {
+    ghost from_gives = { λ byte kind. kind ≡ kind_of byte };
+
+    fn from(byte: u8) -> RunKind {
         if byte == Record::ACCELERATION {
             RunKind::Acceleration
-        } else {
+        } else if byte == Record::CONSTANT_SPEED {
             RunKind::ConstantSpeed
+        } else {
+            RunKind::Other(byte)
         }
     }
 }
@@ -276,7 +284,7 @@ pub fn run_in(r: &[u8]) -> Run
     ensures { result ≡ run_in r.now }
 {
     Run {
-        kind: RunKind::of(r[0]),
+        kind: RunKind::from(r[0]),
         gear: r[1],
         struck: r[2] == 1,
         left_kind: r[3],

@@ -36,7 +36,15 @@ impl Model for PmrInRange {
 }
 
 impl PmrInRange {
-    // The PMR of a number of tenths, if it has them.
+    // The PMR of a number of tenths that is in range.
+    pub fn of(tenths: u16) -> PmrInRange
+        requires { (50 ≤ tenths) × (tenths ≤ 6000) }
+        ensures { result ≡ tenths }
+    {
+        PmrInRange { tenths }
+    }
+
+    // The PMR of any number of tenths, if it is in range.
     pub fn new(tenths: u32) -> Option<PmrInRange>
         ensures { result ≡ pmr_in_range tenths }
     {
@@ -74,6 +82,7 @@ impl PmrInRange {
         self.tenths
     }
 
+    // Its a_urban.
     pub fn a_urban(self) -> Hundredths
         ensures { result.0 ≡ a_urban self }
     {
@@ -81,6 +90,7 @@ impl PmrInRange {
         Hundredths(35 + place(&starts::URBAN, q) as u16)
     }
 
+    // Its a_ref.
     pub fn a_ref(self) -> Hundredths
         ensures { result.0 ≡ a_ref self }
     {
@@ -91,7 +101,7 @@ impl PmrInRange {
         Hundredths(81 + place(&starts::REF, q) as u16)
     }
 
-    // It and the accelerations that follow from it.
+    // This PMR with the accelerations that follow from it.
     pub fn reference(self) -> Reference
         ensures { result ≡ reference_at self }
     {

@@ -135,6 +135,7 @@ impl<'a> Model for Session<'a> {
 }
 
 impl<'a> Session<'a> {
+    // The session of a sheet and its track.
     pub fn of(sheet: Sheet<'a>, track: Track) -> Session<'a>
         requires { (1000 ≤ track.path) × (track.path ≤ 4000) }
         ensures { result ≡ session_of sheet.entry track }
@@ -191,6 +192,7 @@ impl<'a> Session<'a> {
         }
     }
 
+    // The gears that remain, and the lowest one without a window.
     #[tactic(auto, using(sheet::proofs::Presence::present_at))]
     pub fn table(&self) -> Table
         ensures entries { result.entries.items ≡ entries_of self.now }

@@ -104,7 +104,7 @@ pub fn next_with(sheet: &[u8], at: usize, value: u8, from: usize, last: usize) -
     (from..last).find(|n| sheet[Record::SIZE * *n + at] == value)
 }
 
-// The bytes of a whole sheet: the first and the last record stand, and the run records between them are good.
+// The bytes of a sheet of 2 to 1,024 records whose run records, all but the first and the last, are good.
 #[derive(Drop)]
 pub struct Sheet<'a> {
     content: &'a [u8],
@@ -119,6 +119,7 @@ impl<'a> Model for Sheet<'a> {
 }
 
 impl<'a> Sheet<'a> {
+    // The sheet of these bytes.
     pub fn of(bytes: &'a [u8]) -> Sheet<'a>
         requires { RunsGood bytes.now }
         ensures { result ≡ bytes.now }
@@ -126,6 +127,7 @@ impl<'a> Sheet<'a> {
         Sheet { content: bytes }
     }
 
+    // Its bytes.
     pub fn bytes(&self) -> &'a [u8]
         ensures value { result.now ≡ self.now }
         ensures runs_good { RunsGood result.now }
