@@ -1,7 +1,7 @@
 -- The digits of a number, as the library writes them, and numbers in a row. Assumes nothing.
 use mathlib.Core.Path.{◌≡◌, refl, sym, ap, ◌∙◌}
 use mathlib.Core.List.{List, [], ◌∷◌, ◌++◌, append_assoc, append-nil}
-use Prim.Native.Nat.{ℕ, zero, suc, ◌+◌, ◌^◌, ◌≤◌, ◌<◌}
+use Prim.Native.Nat.{ℕ, zero, suc, ◌+◌, ◌-◌, ◌/◌, ◌%◌, ◌^◌, ◌≤◌, ◌<◌}
 use native.Mathlib.Nat.{not-suc-le-zero}
 use native.Mathlib.Numerals.{add-one}
 use native.Mathlib.Omega.{arith}
@@ -14,12 +14,23 @@ use Rattle.text.specs.Text.{digits_of, decimal_of, spaced, line_with}
 
 -- ---- a number
 
-appends : AppendsLastDigit digits_of
+pub one_digit : (most n : ℕ) → 1 ≤ most → n < 10 → digits_of most n ≡ (48 + n) ∷ []
 unfolding digits_of
+one_digit zero n h small = absurd (not-suc-le-zero h)
+one_digit (suc most) n h small = simp (lt-ltb n 10 small)
+
+pub more_digits : (most n : ℕ) → 1 ≤ most → 10 ≤ n → digits_of most n ≡ digits_of (most - 1) (n / 10) ++ ((48 + n % 10) ∷ [])
+unfolding digits_of
+more_digits zero n h large = absurd (not-suc-le-zero h)
+more_digits (suc most) n h large =
+    let pred : suc most - 1 ≡ most = omega arith in
+    simp (le-ltb n 10 large, pred)
+
+appends : AppendsLastDigit digits_of
 appends =
     record {
-      one = λ k n h. simp (lt-ltb n 10 h);
-      more = λ k n h. simp (le-ltb n 10 h);
+      one = λ k n h. one_digit (suc k) n (omega arith) h;
+      more = λ k n h. let pred : suc k - 1 ≡ k = omega arith in rw pred at (more_digits (suc k) n (omega arith) h);
     }
 
 pub at_most_20 : (n : ℕ) → n < 2 ^ 64 → length (decimal n) ≤ 20
