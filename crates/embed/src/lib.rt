@@ -70,7 +70,7 @@ pub extern "C" fn ruthimpo_motorcycle(
     let verdict = motorcycle::judge(motorcycle::levels_of(levels), limit);
     if let Ok(judged) = verdict {
         *mean = judged.mean.0;
-        *pass = judged.pass as u8;
+        *pass = u8::from(judged.pass);
     }
     *place = refusal::answer_place(verdict);
     refusal::answer_number(verdict) as u32

@@ -18,7 +18,7 @@ fn print_line(rt: &impl Print, word: &str, m: u64, n: u64) -> io::Result<()> {
 // The mean and 1 if it passes, 0 if not; or the number and the place of the refusal.
 fn print_verdict(rt: &impl Print, verdict: Result<JudgedMean, LevelRefusal>) -> io::Result<()> {
     match verdict {
-        Ok(judged) => print_line(rt, "OK", judged.mean.0 as u64, judged.pass as u64),
+        Ok(judged) => print_line(rt, "OK", judged.mean.0 as u64, u64::from(judged.pass)),
         Err(refusal) => print_line(
             rt,
             "REFUSED",

@@ -86,7 +86,7 @@ fn whole(x: f32) -> u16
 fn far_apart(a: u16, b: u16) -> bool
     ensures { result ≡ far_apart a b }
 {
-    (a as u32 + 2 < b as u32) | (b as u32 + 2 < a as u32)
+    a.abs_diff(b) > 2
 }
 
 // The verdict on four levels against a limit in whole dB(A). The mean is judged at 32 bits, since four times a limit may not fit into 16.
