@@ -2,7 +2,8 @@
 // cars and then the L_urban of each, in two bytes each, low byte first.
 #![tactic(auto)]
 
-use production::{Check, Status};
+use production::{AfterVerdict, Check, Status};
+use refusal::Numbered;
 use std::fs::File;
 use std::io;
 use std::io::Read;
@@ -21,56 +22,45 @@ fn print_check(rt: &impl Print, check: Check) -> io::Result<()> {
 }
 
 // The number and the place of the refusal of a list's last car, where it is refused.
-fn print_refusal(rt: &impl Print, number: u8, place: usize) -> io::Result<()> {
-    if number == 0 {
-        return Ok(());
+fn print_refusal(rt: &impl Print, reply: Result<(), AfterVerdict>) -> io::Result<()> {
+    if let Err(refusal) = reply {
+        print!(rt; " REFUSED {} {}", refusal.number(), refusal.place())?;
     }
-    print!(rt; " REFUSED {number} {place}")
+    Ok(())
 }
 
 // Offers the next cars of the file, each to the check that the one before it gave back, and prints what is known after the last. A list that
 // the file cuts short has no line.
 fn print_after(rt: &impl Print, file: &mut impl Read, limit: u16, count: u16) -> io::Result<()> {
     let mut check = Check::start(limit);
-    let mut number = 0u8;
-    let mut place = 0usize;
+    let mut reply = Ok(());
     for _ in 0..count {
         let mut bytes = [0u8; 2];
         if file.read_exact(&mut bytes).is_err() {
             return Ok(());
         }
         let offered = check.offer(units::number16(&bytes, 0));
-        let reply = offered.reply;
         check = offered.check;
-        number = reply.number();
-        place = reply.place();
+        reply = offered.reply;
     }
     print_check(rt, check)?;
-    print_refusal(rt, number, place)?;
+    print_refusal(rt, reply)?;
     println!(rt)
 }
 
-// Prints the line of the next list; answers whether there was one.
-fn print_next(rt: &impl Print, file: &mut impl Read) -> io::Result<bool> {
-    let mut bytes = [0u8; 4];
-    if file.read_exact(&mut bytes).is_err() {
-        return Ok(false);
-    }
-    print_after(
-        rt,
-        file,
-        units::number16(&bytes, 0),
-        units::number16(&bytes, 2),
-    )?;
-    Ok(true)
-}
-
-// The turns are counted, since a proved loop ends and nothing says that a file does.
+// Prints the line of each list. The turns are counted, since a proved loop ends and nothing says that a file does.
 fn print_all(rt: &impl Print, file: &mut impl Read) -> io::Result<()> {
     for _ in 0..u32::MAX {
-        if !print_next(rt, file)? {
+        let mut bytes = [0u8; 4];
+        if file.read_exact(&mut bytes).is_err() {
             break;
         }
+        print_after(
+            rt,
+            file,
+            units::number16(&bytes, 0),
+            units::number16(&bytes, 2),
+        )?;
     }
     Ok(())
 }

@@ -2,7 +2,8 @@
 // four bytes, low byte first; the length 0xffffffff ends the file.
 #![tactic(auto)]
 
-use program::Transfer;
+ghost use Rattle.std.specs.Prelude.{◌≤◌, IfSome};
+
 use std::fs::File;
 use std::io;
 use std::io::Read;
@@ -11,30 +12,28 @@ use std::rt::Files;
 // Room for the longest sheet of the file; some are over the limit of a sheet.
 const LONGEST: usize = 65536;
 
-// The next length, or a number above LONGEST where the file ends.
-fn read_length(file: &mut impl Read) -> usize {
+// The next length, or none where the file ends.
+fn read_length(file: &mut impl Read) -> Option<usize>
+    ensures { IfSome result (λ length. length ≤ LONGEST) }
+{
     let mut four = [0u8; 4];
-    if file.read_exact(&mut four).is_err() {
-        return LONGEST + 1;
-    }
-    units::number32(&four, 0) as usize
+    file.read_exact(&mut four).ok()?;
+    let length = u32::from_le_bytes(four) as usize;
+    (length <= LONGEST).then_some(length)
 }
 
 // Prints the line of a sheet.
 fn print_line(rt: &impl Print, sheet: &[u8]) -> io::Result<()> {
     let mut line = [0u8; program::LINE_ROOM];
-    match program::print_line(sheet, &mut line, &mut io::writer(rt)) {
-        Transfer::Bytes(_) => Ok(()),
-        Transfer::Failed(error) => Err(error),
-    }
+    program::print_line(sheet, &mut line, &mut io::writer(rt))?;
+    Ok(())
 }
 
 // Prints the line of the next sheet; answers whether there was one.
 fn print_next(rt: &impl Print, file: &mut impl Read) -> io::Result<bool> {
-    let length = read_length(file);
-    if length > LONGEST {
+    let Some(length) = read_length(file) else {
         return Ok(false);
-    }
+    };
     let mut sheet = [0u8; LONGEST];
     if file.read_exact(&mut sheet[..length]).is_err() {
         return Ok(false);

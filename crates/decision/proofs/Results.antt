@@ -3,54 +3,53 @@ use mathlib.Core.Path.{◌≡◌, refl, sym, ap, ap₂, subst, ◌∙◌}
 use mathlib.Core.Bool.{not}
 use mathlib.Core.List.{List}
 use Prim.Native.Nat.{ℕ, ◌-◌, ◌≤◌}
-use native.Mathlib.Omega.{arith}
 use lib.Dec.{ltb}
 use lib.ListN.{length}
 use borrow.Author.Tests.{ltb-false}
+use Rattle.std.specs.Prelude.{Option, Some, None, Result, Ok, Err}
 use Rattle.units.proofs.Tests.{by_test, neither}
-use Rattle.sheet.specs.declared.Examination.{Examination}
-use Rattle.sheet.specs.declared.Examination.TheVariants as examination
+use Rattle.refusal.specs.declared.Refusal.{Refusal}
+use Rattle.record.specs.declared.Vehicle.{Vehicle}
+use Rattle.record.specs.declared.Closing.{Closing}
+use Rattle.sheet.specs.declared.Whole.{Whole}
 use Rattle.sheet.specs.Sheet.{examined, any_acceleration}
 use Rattle.sheet.proofs.Examinations.{WholeSheet, whole}
 use Rattle.reference.specs.declared.Reference.{Reference}
-use Rattle.limit.specs.declared.Limit.{Limit}
-use Rattle.limit.specs.declared.Limit.TheVariants as limits
 use Rattle.gears.specs.Rules.{first_not_falling}
 use Rattle.gears.proofs.Choices.{Selectable, sound}
 use Rattle.session.specs.declared.WithoutWindow.{WithoutWindow}
-use Rattle.session.specs.declared.WithoutWindow.TheVariants as without
 use Rattle.session.specs.Session.{without_window, gears_of, windows_of}
 use Rattle.urban.specs.declared.Chosen.{Chosen}
-use Rattle.urban.specs.declared.Outcome.{Outcome}
 use Rattle.urban.specs.Urban.{Straddled, basis_of, outcome_of}
-use Rattle.decision.specs.declared.Selection.{Selection}
-use Rattle.decision.specs.declared.Selection.TheVariants as selection
-use Rattle.decision.specs.declared.Decision.{Decision}
-use Rattle.decision.specs.declared.Decision.TheVariants.{Result}
-use Rattle.decision.specs.Decision.{out_of_range, Straddling, finish_by, decide_gears, unless_without, decide_whole, decide_limited, decide_by, decision_over, sheet_vehicle, sheet_closing, sheet_backgrounds, pmr_in, sheet_limit, decision_of, sheet_session, reference_in, choice_in, selection_in}
+use Rattle.decision.specs.declared.Judged.{Judged}
+use Rattle.decision.specs.Decision.{out_of_range, Selection, Straddling, Decision, finish_by, decide_gears, unless_without, decide_whole, decide_limited, decide_by, decision_over, sheet_vehicle, sheet_closing, sheet_backgrounds, pmr_in, sheet_limit, decision_of, sheet_session, reference_in, choice_in, selection_in}
 use Rattle.decision.proofs.Selections.{straddling, Measuring, measuring}
 
-pub record Decided (s : List ℕ) (o : Outcome) (limit : ℕ) : Type 0 where
-  pub sheet : WholeSheet s (sheet_vehicle s) (sheet_closing s)
-  pub limit_is : sheet_limit s ≡ limits.Found limit
+-- the first and the last record of a sheet
+abbrev pub sheet_whole : List ℕ → Whole
+sheet_whole s = record { vehicle = sheet_vehicle s; closing = sheet_closing s }
+
+pub record Decided (s : List ℕ) (d : Judged) : Type 0 where
+  pub sheet : WholeSheet s (sheet_whole s)
+  pub limit_is : sheet_limit s ≡ Ok d.limit
   pub low : 50 ≤ pmr_in s
   pub high : pmr_in s ≤ 6000
   pub chosen_gears : Chosen
-  pub chosen_is : selection_in s ≡ selection.Chosen chosen_gears
+  pub chosen_is : selection_in s ≡ Ok chosen_gears
   pub straddled : Straddled (reference_in s) chosen_gears
-  pub measured : Measuring (sheet_session s) (selection.Chosen chosen_gears)
-  pub is : o ≡ outcome_of (reference_in s) limit (basis_of (reference_in s) chosen_gears)
+  pub measured : Measuring (sheet_session s) (Ok chosen_gears)
+  pub is : d.outcome ≡ outcome_of (reference_in s) d.limit (basis_of (reference_in s) chosen_gears)
 
 -- what was selected, where it gives a result
-selected : (r : Reference) (n : ℕ) (x : Selection) (o : Outcome) (limit : ℕ) → Straddling r x → finish_by r n x ≡ Result o limit → (g : Chosen) × (x ≡ selection.Chosen g) × Straddled r g × (n ≡ limit) × (o ≡ outcome_of r limit (basis_of r g))
+selected : (r : Reference) (n : ℕ) (x : Selection) (d : Judged) → Straddling r x → finish_by r n x ≡ Ok d → (g : Chosen) × (x ≡ Ok g) × Straddled r g × (n ≡ d.limit) × (d.outcome ≡ outcome_of r d.limit (basis_of r g))
 unfolding finish_by
-selected r n (selection.Refused x) o limit h e = absurd (let z : ◌≡◌ {A = ℕ} 0 1 = cc in omega arith)
-selected r n (selection.Chosen g) o limit h e =
-    let against : n ≡ limit = cc in
-    let same : outcome_of r n (basis_of r g) ≡ o = cc in
-    (g, refl, h, against, sym same ∙ ap (λ (m : ℕ). outcome_of r m (basis_of r g)) against)
+selected r n (Err x) d h e = cc
+selected r n (Ok g) d h e =
+    let same : ◌≡◌ {A = Judged} (record { outcome = outcome_of r n (basis_of r g); limit = n }) d = cc in
+    let against : n ≡ d.limit = ap (λ (j : Judged). j.limit) same in
+    (g, refl, h, against, sym (ap (λ (j : Judged). j.outcome) same) ∙ ap (λ (m : ℕ). outcome_of r m (basis_of r g)) against)
 
-module _ (s : List ℕ) (o : Outcome) (limit : ℕ) (w : WholeSheet s (sheet_vehicle s) (sheet_closing s)) where
+module _ (s : List ℕ) (d : Judged) (w : WholeSheet s (sheet_whole s)) where
   rules : Selectable (reference_in s).a_ref.0 (gears_of (sheet_session s)) (choice_in s)
   unfolding choice_in
   rules = sound (reference_in s) (gears_of (sheet_session s))
@@ -63,12 +62,12 @@ module _ (s : List ℕ) (o : Outcome) (limit : ℕ) (w : WholeSheet s (sheet_veh
   unfolding selection_in
   windows = measuring (sheet_session s) (reference_in s).a_ref.0 (choice_in s) rules
 
-  from_gears : (n : ℕ) → sheet_limit s ≡ limits.Found n → 50 ≤ pmr_in s → pmr_in s ≤ 6000 → finish_by (reference_in s) n (selection_in s) ≡ Result o limit → Decided s o limit
+  from_gears : (n : ℕ) → sheet_limit s ≡ Ok n → 50 ≤ pmr_in s → pmr_in s ≤ 6000 → finish_by (reference_in s) n (selection_in s) ≡ Ok d → Decided s d
   from_gears n l lo hi e =
-      let r = selected (reference_in s) n (selection_in s) o limit straddles e in
+      let r = selected (reference_in s) n (selection_in s) d straddles e in
       record {
         sheet = w;
-        limit_is = l ∙ ap limits.Found r.3;
+        limit_is = l ∙ ap (λ (m : ℕ). Ok m) r.3;
         low = lo;
         high = hi;
         chosen_gears = r.0;
@@ -79,36 +78,36 @@ module _ (s : List ℕ) (o : Outcome) (limit : ℕ) (w : WholeSheet s (sheet_veh
       }
 
   Then : Decision → Type 0
-  Then d = d ≡ Result o limit → Decided s o limit
+  Then x = x ≡ Ok d → Decided s d
 
-  by_without : (w : WithoutWindow) (d : Decision) → Then d → Then (unless_without w d)
+  by_without : (x : Option WithoutWindow) (y : Decision) → Then y → Then (unless_without x y)
   unfolding Then unless_without
-  by_without (without.Gear gear x) d then e = absurd (let y : ◌≡◌ {A = ℕ} 0 1 = cc in omega arith)
-  by_without without.NoGear d then e = then e
+  by_without (Some x) y then e = cc
+  by_without None y then e = then e
 
-  from_whole : (n : ℕ) → sheet_limit s ≡ limits.Found n → Then (decide_whole (sheet_session s) (pmr_in s) n)
+  from_whole : (n : ℕ) → sheet_limit s ≡ Ok n → Then (decide_whole (sheet_session s) (pmr_in s) n)
   unfolding Then decide_whole decide_gears reference_in choice_in selection_in sheet_session
   from_whole n found =
-      by_test Then (out_of_range (pmr_in s)) _ _ (λ p e. absurd (let y : ◌≡◌ {A = ℕ} 0 1 = cc in omega arith))
+      by_test Then (out_of_range (pmr_in s)) _ _ (λ p e. cc)
       (λ p.
       let range = neither (ltb (pmr_in s) 50) (ltb 6000 (pmr_in s)) p in
-      by_test Then (not (any_acceleration s)) _ _ (λ k e. absurd (let y : ◌≡◌ {A = ℕ} 0 1 = cc in omega arith))
+      by_test Then (not (any_acceleration s)) _ _ (λ k e. cc)
       (λ k. by_without (without_window (sheet_session s)) _
-      (by_test Then (ltb (first_not_falling (gears_of (sheet_session s))) (length (gears_of (sheet_session s)) - 1)) _ _ (λ f e. absurd (let y : ◌≡◌ {A = ℕ} 0 1 = cc in omega arith))
+      (by_test Then (ltb (first_not_falling (gears_of (sheet_session s))) (length (gears_of (sheet_session s)) - 1)) _ _ (λ f e. cc)
       (λ f e. from_gears n found (ltb-false (pmr_in s) 50 range.0) (ltb-false 6000 (pmr_in s) range.1) e))))
 
-  from_limit : (l : Limit) → sheet_limit s ≡ l → Then (decide_limited (sheet_session s) (pmr_in s) l)
+  from_limit : (l : Result ℕ Refusal) → sheet_limit s ≡ l → Then (decide_limited (sheet_session s) (pmr_in s) l)
   unfolding Then decide_limited
-  from_limit (limits.Refused x) found e = absurd (let y : ◌≡◌ {A = ℕ} 0 1 = cc in omega arith)
-  from_limit (limits.Found n) found e = from_whole n found e
+  from_limit (Err x) found e = cc
+  from_limit (Ok n) found e = from_whole n found e
 
-pub decided : (s : List ℕ) (o : Outcome) (limit : ℕ) → decision_of s ≡ Result o limit → Decided s o limit
+pub decided : (s : List ℕ) (d : Judged) → decision_of s ≡ Ok d → Decided s d
 unfolding decision_of decision_over decide_by sheet_vehicle sheet_closing sheet_session pmr_in Then
-decided s o limit e = by (examined s) refl e
+decided s d e = by (examined s) refl e
   where
-    by : (x : Examination) → examined s ≡ x → decide_by (sheet_backgrounds s) (sheet_limit s) s x ≡ Result o limit → Decided s o limit
-    by (examination.Refused r) w k = absurd (let y : ◌≡◌ {A = ℕ} 0 1 = cc in omega arith)
-    by (examination.Whole v z) w k =
-        let sheet = whole s v z w in
-        let same : examination.Whole v z ≡ examination.Whole (sheet_vehicle s) (sheet_closing s) = ap₂ examination.Whole sheet.vehicle_is sheet.closing_is in
-        from_limit s o limit (whole s (sheet_vehicle s) (sheet_closing s) (w ∙ same)) (sheet_limit s) refl (ap (decide_by (sheet_backgrounds s) (sheet_limit s) s) (sym same) ∙ k)
+    by : (x : Result Whole Refusal) → examined s ≡ x → decide_by (sheet_backgrounds s) (sheet_limit s) s x ≡ Ok d → Decided s d
+    by (Err r) w k = cc
+    by (Ok x) w k =
+        let sheet = whole s x w in
+        let same : x ≡ sheet_whole s = ap₂ (λ (v : Vehicle) (z : Closing). record { vehicle = v; closing = z }) sheet.vehicle_is sheet.closing_is in
+        from_limit s d (whole s (sheet_whole s) (w ∙ ap (λ (y : Whole). Ok y) same)) (sheet_limit s) refl (ap (λ (y : Whole). decide_by (sheet_backgrounds s) (sheet_limit s) s (Ok y)) (sym same) ∙ k)

@@ -5,27 +5,17 @@
 ghost use Rattle.std.specs.Prelude.{◌≤◌};
 
 use gears::{Choice, Gear};
-use level::{Reading, Side};
-use reference::Reference;
+use level::Reading;
+use reference::{PmrInRange, Reference};
 use std::io;
 use units::{Hundredths, Tenths};
 use window::{Four, ValidRun};
 
-// A line of a text and a number.
-fn one(rt: &impl Print, text: &str, n: u64) -> io::Result<()> {
-    println!(rt; "{text}{n}")
-}
-
-// A line of a text and two numbers.
-fn two(rt: &impl Print, text: &str, m: u64, n: u64) -> io::Result<()> {
-    println!(rt; "{text}{m} {n}")
-}
-
 // The corrected level, in tenths, of a level over a background in tenths.
 fn side(rt: &impl Print, text: &str, x: f32, background: u16) -> io::Result<()> {
     match level::side_of(Reading::Level(x), Tenths(background)) {
-        Side::Corrected(t) => one(rt, text, t.0 as u64),
-        Side::NotValid => println!(rt; "{text}not valid"),
+        Some(corrected) => println!(rt; "{text}{}", corrected.0),
+        None => println!(rt; "{text}not valid"),
     }
 }
 
@@ -56,7 +46,7 @@ fn run_of(left: u16, right: u16) -> ValidRun {
 // Whether a, b and twice c are a window: 1 if so.
 fn window(rt: &impl Print, text: &str, a: ValidRun, b: ValidRun, c: ValidRun) -> io::Result<()> {
     let four = Four { a, b, c, d: c };
-    one(rt, text, window::fits(four) as u64)
+    println!(rt; "{text}{}", u8::from(window::fits(four)))
 }
 
 fn windows(rt: &impl Print) -> io::Result<()> {
@@ -78,8 +68,9 @@ fn windows(rt: &impl Print) -> io::Result<()> {
 fn reference(rt: &impl Print, q: u16) -> io::Result<()>
     requires { (50 ≤ q) × (q ≤ 6000) }
 {
-    let a_urban = reference::a_urban(q).0;
-    let a_ref = reference::a_ref(q).0;
+    let pmr = PmrInRange::of(q);
+    let a_urban = pmr.a_urban().0;
+    let a_ref = pmr.a_ref().0;
     println!(rt; "PMR {q} {a_urban} {a_ref}")
 }
 
@@ -89,11 +80,7 @@ fn references(rt: &impl Print) -> io::Result<()> {
     reference(rt, 1000)?;
     reference(rt, 6000)?;
     reference(rt, 50)?;
-    one(
-        rt,
-        "PMR of 100.0 and 1500 ",
-        reference::pmr(1000, 1500) as u64,
-    )
+    println!(rt; "PMR of 100.0 and 1500 {}", reference::pmr(1000, 1500))
 }
 
 // PMR 66.7, a_urban 1.06, a_ref 1.49.
@@ -105,30 +92,24 @@ const CAR: Reference = Reference {
 
 // The rule, and the place among the two gears, from 0; nothing where the rules choose no gear alone.
 fn choice(rt: &impl Print) -> io::Result<()> {
-    let mut gears = [Gear {
-        number: 2,
-        acceleration: Hundredths(156),
-    }; 16];
-    gears[1] = Gear {
-        number: 3,
-        acceleration: Hundredths(142),
-    };
-    let chosen = gears::choose(gears, 2, CAR);
-    if let Choice::One(rule, place) = chosen {
-        two(
-            rt,
-            "R 1.49, gears 1.56 and 1.42 one ",
-            rule as u64,
-            place as u64,
-        )?;
+    let gears = [gear_of(2, 156), gear_of(3, 142)];
+    if let Some(Choice::One(rule, place)) = gears::choose(&gears, CAR) {
+        println!(rt; "R 1.49, gears 1.56 and 1.42 one {rule} {place}")?;
     }
     Ok(())
+}
+
+fn gear_of(number: u8, acceleration: u16) -> Gear {
+    Gear {
+        number,
+        acceleration: Hundredths(acceleration),
+    }
 }
 
 // kp and L_urban of one gear.
 fn urban(rt: &impl Print, text: &str, a: u16, w: u16, c: u16) -> io::Result<()> {
     let l = urban::l_urban(CAR, Hundredths(a), Tenths(w), Tenths(c));
-    two(rt, text, l.kp as u64, l.level as u64)
+    println!(rt; "{text}{} {}", l.kp, l.level)
 }
 
 fn main(rt: HostRuntime) -> io::Result<()> {
@@ -136,12 +117,12 @@ fn main(rt: HostRuntime) -> io::Result<()> {
     windows(&rt)?;
     references(&rt)?;
     let a = gears::run_acceleration(440, 560, 2450);
-    one(&rt, "44.0 to 56.0, length 450, AA' ", a.0 as u64)?;
+    println!(rt; "44.0 to 56.0, length 450, AA' {}", a.0)?;
     choice(&rt)?;
     urban(&rt, "a 1.00, W 66.0, C 66.0 ", 100, 660, 660)?;
     urban(&rt, "a 1.00, W 65.0, C 66.0 ", 100, 650, 660)?;
     urban(&rt, "a 1.56, W 72.0, C 65.0 ", 156, 720, 650)?;
     // k × (L(i) − L(j)) is minus half a tenth
     let w = urban::weighed(50, Tenths(700), Tenths(701));
-    one(&rt, "k 0.50, L(i) 70.0, L(j) 70.1 ", w.0 as u64)
+    println!(rt; "k 0.50, L(i) 70.0, L(j) 70.1 {}", w.0)
 }

@@ -1,7 +1,6 @@
 -- What the functions for C and Rust answer, and leave behind their pointers, for a production check kept as two numbers.
-use Rattle.std.specs.Prelude.{◌≡◌, List, [], ◌∷◌, ◌++◌, ℕ}
-use Rattle.production.specs.declared.Restored.{Restored}
-use Rattle.production.specs.declared.Restored.TheVariants.{At, NoSuchStage}
+use Rattle.std.specs.Prelude.{◌≡◌, List, [], ◌∷◌, ◌++◌, ℕ, Option, Some, None}
+use Rattle.production.specs.declared.Check.{Check}
 use Rattle.production.specs.Annex.{status_of, wanted_of, reply_of, reply_number, reply_place}
 use Rattle.production.specs.Stages.{status_at, wanted_at, offer_of}
 use Rattle.production.specs.Sequences.{check_of}
@@ -11,30 +10,30 @@ use Rattle.production.specs.Numbers.{status_number, check_numbers, restored_of}
 -- were.
 
 -- a car offered: the answer, its place, and the two numbers from then on
-abbrev pub offer_code : Restored → ℕ → ℕ
-offer_code (At check) car = reply_number (offer_of check car).reply
-offer_code NoSuchStage car = 255
+abbrev pub offer_code : Option Check → ℕ → ℕ
+offer_code (Some check) car = reply_number (offer_of check car).reply
+offer_code None car = 255
 
-abbrev pub offer_place : Restored → ℕ → ℕ
-offer_place (At check) car = reply_place (offer_of check car).reply
-offer_place NoSuchStage car = 0
+abbrev pub offer_place : Option Check → ℕ → ℕ
+offer_place (Some check) car = reply_place (offer_of check car).reply
+offer_place None car = 0
 
-abbrev pub numbers_after : Restored → ℕ → List ℕ → List ℕ
-numbers_after (At check) car kept = check_numbers (offer_of check car).check
-numbers_after NoSuchStage car kept = kept
+abbrev pub numbers_after : Option Check → ℕ → List ℕ → List ℕ
+numbers_after (Some check) car kept = check_numbers (offer_of check car).check
+numbers_after None car kept = kept
 
 -- the check read: the answer, the number of its status, and the cars that it wants
-abbrev pub status_code : Restored → ℕ
-status_code (At check) = 0
-status_code NoSuchStage = 255
+abbrev pub status_code : Option Check → ℕ
+status_code (Some check) = 0
+status_code None = 255
 
-abbrev pub status_or : Restored → ℕ → ℕ
-status_or (At check) kept = status_number (status_at check.stage)
-status_or NoSuchStage kept = kept
+abbrev pub status_or : Option Check → ℕ → ℕ
+status_or (Some check) kept = status_number (status_at check.stage)
+status_or None kept = kept
 
-abbrev pub wanted_or : Restored → ℕ → ℕ
-wanted_or (At check) kept = wanted_at check.stage
-wanted_or NoSuchStage kept = kept
+abbrev pub wanted_or : Option Check → ℕ → ℕ
+wanted_or (Some check) kept = wanted_at check.stage
+wanted_or None kept = kept
 
 -- A refused car leaves both numbers as they were.
 abbrev pub RefusedLeavesNumbers : Type 0

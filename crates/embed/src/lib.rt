@@ -19,9 +19,8 @@ ghost use Rattle.embed.specs.MeanAndPass.{mean_or, pass_or};
 ghost use Rattle.embed.specs.CheckInNumbers.{offer_code, offer_place, numbers_after, status_code, status_or, wanted_or, OfferInNumbers, StatusInNumbers};
 ghost use Rattle.embed.specs.FourMasses.{masses_or};
 
-use lorry::{Loading, TwoAxles};
-use motorcycle::Verdict;
-use production::{Check, Restored};
+use lorry::{Masses, RearOverloaded, TwoAxles};
+use production::Check;
 
 // Evaluates a sheet. Answers 0 and puts the result record into the first 32 bytes of `res`, or answers the number of the refusal
 // and leaves `res` as it was. The place of the refusal goes to `place`, 0 on success.
@@ -40,6 +39,7 @@ pub extern "C" fn ruthimpo_evaluate(sheet: &[u8], res: &mut [u8], place: &mut us
 
 // Puts the line of the evaluation program at the front of `out` and answers its length; the bytes behind it stay. If `out` has less than 276
 // bytes, it stays as it was, and the answer is 0, which is the length of no line.
+#[tactic(auto, unfolding(crate::specs::Printed::printed_of, text::specs::Text::onto))]
 #[unsafe(no_mangle)]
 pub extern "C" fn ruthimpo_line(sheet: &[u8], out: &mut [u8]) -> usize
     ensures size { result ≡ length (printed_of sheet.now (length out.old)) }
@@ -49,21 +49,6 @@ pub extern "C" fn ruthimpo_line(sheet: &[u8], out: &mut [u8]) -> usize
         return 0;
     }
     line::sheet_line(sheet, out)
-}
-
-// Puts a mean and whether it passes behind two pointers. A refusal leaves both as they were.
-fn put_mean(verdict: Verdict, mean: &mut u16, pass: &mut u8)
-    ensures mean { mean.new ≡ mean_or verdict mean.old }
-    ensures pass { pass.new ≡ pass_or verdict pass.old }
-{
-    match verdict {
-        Verdict::Judged(quarters, passes) => {
-            *mean = quarters.0;
-            *pass = passes as u8;
-        }
-        Verdict::LevelOutOfRange(_) => {}
-        Verdict::SideFarApart(_) => {}
-    }
 }
 
 // Judges the four levels of a motorcycle, given by their bit patterns, against a limit in whole dB(A). Answers 0 and puts the mean, in
@@ -83,20 +68,22 @@ pub extern "C" fn ruthimpo_motorcycle(
     ensures pass { pass.new ≡ pass_or (verdict_of (levels_of levels.now) limit) pass.old }
 {
     let verdict = motorcycle::judge(motorcycle::levels_of(levels), limit);
-    put_mean(verdict, mean, pass);
-    *place = motorcycle::verdict_place(verdict);
-    motorcycle::verdict_number(verdict) as u32
+    if let Ok(judged) = verdict {
+        *mean = judged.mean.0;
+        *pass = u8::from(judged.pass);
+    }
+    *place = refusal::answer_place(verdict);
+    refusal::answer_number(verdict) as u32
 }
 
 // The answer to a number that no stage has. The papers give no number for this; theirs end at 23.
 const NO_SUCH_STAGE: u32 = 255;
 
-// Puts the two numbers of a check behind a pointer.
-fn put_check(check: Check, numbers: &mut [u16; 2])
-    ensures { numbers.new ≡ check_numbers check }
+// The two numbers of a check, as the caller keeps it.
+fn numbers_of(check: Check) -> [u16; 2]
+    ensures { result ≡ check_numbers check }
 {
-    let stage = check.stage;
-    *numbers = [check.limit, stage.number()];
+    [check.limit, u16::from(check.stage)]
 }
 
 // Starts a production check against a limit in whole dB(A). Puts its two numbers, the limit and the stage, behind `check`, where the
@@ -105,33 +92,7 @@ fn put_check(check: Check, numbers: &mut [u16; 2])
 pub extern "C" fn ruthimpo_production_start(limit: u16, check: &mut [u16; 2])
     ensures { check.new ≡ check_numbers (start_of limit) }
 {
-    put_check(Check::start(limit), check);
-}
-
-// Offers a car to what was restored from the numbers behind a pointer, and puts those of the next check there.
-fn offer_restored(
-    restored: Restored,
-    l_urban: u16,
-    numbers: &mut [u16; 2],
-    place: &mut usize,
-) -> u32
-    ensures code { result ≡ offer_code restored l_urban }
-    ensures place { place.new ≡ offer_place restored l_urban }
-    ensures check { numbers.new ≡ numbers_after restored l_urban numbers.old }
-{
-    match restored {
-        Restored::At(check) => {
-            let offered = check.offer(l_urban);
-            let reply = offered.reply;
-            put_check(offered.check, numbers);
-            *place = reply.place();
-            reply.number() as u32
-        }
-        Restored::NoSuchStage => {
-            *place = 0;
-            NO_SUCH_STAGE
-        }
-    }
+    *check = numbers_of(Check::start(limit));
 }
 
 // Offers a car by its L_urban to the check behind `check`. Answers 0 and puts the numbers of the next check there; or answers 20 with the number
@@ -147,25 +108,14 @@ pub extern "C" fn ruthimpo_production_offer(
     ensures check { check.new ≡ numbers_after (restored_from check.old) l_urban check.old }
     ensures annex { OfferInNumbers check.old l_urban result place.new check.new }
 {
-    let restored = Check::restore(check[0], check[1]);
-    offer_restored(restored, l_urban, check, place)
-}
-
-// Puts the status of what was restored, and the cars it wants, behind two pointers.
-fn put_status(restored: Restored, status: &mut u8, wanted: &mut u8) -> u32
-    ensures code { result ≡ status_code restored }
-    ensures status { status.new ≡ status_or restored status.old }
-    ensures wanted { wanted.new ≡ wanted_or restored wanted.old }
-{
-    match restored {
-        Restored::At(check) => {
-            let is = check.status();
-            *status = is.number();
-            *wanted = check.wanted();
-            0
-        }
-        Restored::NoSuchStage => NO_SUCH_STAGE,
-    }
+    let Some(before) = Check::restore(check[0], check[1]) else {
+        *place = 0;
+        return NO_SUCH_STAGE;
+    };
+    let offered = before.offer(l_urban);
+    *check = numbers_of(offered.check);
+    *place = refusal::answer_place(offered.reply);
+    refusal::answer_number(offered.reply) as u32
 }
 
 // Reads the check behind `check`. Answers 0 and puts the status, 0 open, 1 conforms, 2 does not conform, into `status` and the number of cars still
@@ -181,7 +131,12 @@ pub extern "C" fn ruthimpo_production_status(
     ensures wanted { wanted.new ≡ wanted_or (restored_from check.now) wanted.old }
     ensures annex { StatusInNumbers check.now result status.new wanted.new }
 {
-    put_status(Check::restore(check[0], check[1]), status, wanted)
+    let Some(restored) = Check::restore(check[0], check[1]) else {
+        return NO_SUCH_STAGE;
+    };
+    *status = u8::from(restored.status());
+    *wanted = restored.wanted();
+    0
 }
 
 // A lorry of two axles, or a stand-in, from the numbers that are handed in.
@@ -196,27 +151,22 @@ fn lorry_of(power: u16, front: u16, rear: u16, rear_max: u16) -> TwoAxles
     }
 }
 
-// Puts the masses of a lorry behind a pointer. A refusal leaves them as they were.
-fn put_masses(loading: Loading, masses: &mut [u64; 4])
-    ensures { masses.new ≡ masses_or loading masses.old }
-{
-    match loading {
-        Loading::Reckoned(given) => {
-            *masses = [given.mass.0, given.load.0, given.lowest.0, given.highest.0];
-        }
-        Loading::RearOverloaded => {}
-    }
-}
-
-// Puts the masses of a lorry and the place of its refusal behind two pointers, and answers the number of the refusal.
-fn put_loading(loading: Loading, masses: &mut [u64; 4], place: &mut usize) -> u32
+// Puts the masses of a lorry and the place of its refusal behind two pointers, and answers the number of the refusal. A refusal leaves the masses as
+// they were.
+fn put_loading(
+    loading: Result<Masses, RearOverloaded>,
+    masses: &mut [u64; 4],
+    place: &mut usize,
+) -> u32
     ensures code { result ≡ loading_number loading }
     ensures place { place.new ≡ loading_place loading }
     ensures masses { masses.new ≡ masses_or loading masses.old }
 {
-    put_masses(loading, masses);
-    *place = loading.place();
-    loading.number() as u32
+    if let Ok(given) = loading {
+        *masses = [given.mass.0, given.load.0, given.lowest.0, given.highest.0];
+    }
+    *place = refusal::answer_place(loading);
+    refusal::answer_number(loading) as u32
 }
 
 // Reckons the test mass of a lorry of two axles from its power in tenths of kW, the unladen loads of its axles and the maximum of the rear one in

@@ -1,7 +1,7 @@
 // Evaluates the sheet on standard input and prints its line on standard output. What keeps it from that goes to standard error.
 #![tactic(auto)]
 
-use program::Ending;
+use program::Failure;
 use std::env::{Env, FillError};
 use std::io;
 use std::io::{Eprint, Input, Print};
@@ -17,12 +17,9 @@ fn evaluate_input(rt: &(impl Input + Print + Eprint)) {
     let mut input = rt.reader();
     let mut output = io::writer(rt);
     match program::run(&mut input, &mut output, &mut sheet, &mut line) {
-        Ending::Printed {
-            read: _,
-            written: _,
-        } => {}
-        Ending::NotRead { error } => report(rt, "read", error),
-        Ending::NotWritten { read: _, error } => report(rt, "write", error),
+        Ok(_) => {}
+        Err(Failure::NotRead { error }) => report(rt, "read", error),
+        Err(Failure::NotWritten { error, .. }) => report(rt, "write", error),
     }
 }
 

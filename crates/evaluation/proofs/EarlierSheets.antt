@@ -1,33 +1,32 @@
 -- Earlier sheets keep their results. Assumes nothing.
-use mathlib.Core.Path.{◌≡◌, refl, sym, ap, ◌∙◌}
+use mathlib.Core.Path.{◌≡◌, refl, sym, ap, ap₂, ◌∙◌}
 use mathlib.Core.Bool.{Bool, true, false, cond}
 use mathlib.Core.List.{List}
 use mathlib.Core.Logic.{◌⊎◌, inl, inr}
 use Prim.Native.Nat.{ℕ}
-use native.Mathlib.Omega.{arith}
 use lib.Dec.{ltb}
 use lib.ListN.{length}
+use Rattle.std.specs.Prelude.{Result, Ok, Err}
 use Rattle.units.specs.Tests.{all_of}
 use Rattle.refusal.specs.declared.Refusal.{Refusal}
 use Rattle.refusal.specs.declared.Refusal.TheVariants as refusal
-use Rattle.refusal.specs.declared.Answer.TheVariants as answer
+use Rattle.refusal.specs.Refusal.{Answer}
 use Rattle.record.specs.declared.Backgrounds.{Backgrounds}
+use Rattle.record.specs.declared.Vehicle.{Vehicle}
+use Rattle.record.specs.declared.Closing.{Closing}
 use Rattle.record.specs.Records.{record_at, zeros, right_good, looked_up, vehicle_tests, vehicle_good, vehicle_in, closing_tests, closing_good, closing_in}
 use Rattle.record.proofs.VehicleRanges.{vehicle_ranges}
 use Rattle.record.proofs.ClosingRanges.{closing_ranges}
 use Rattle.record.proofs.RightBackground.{zero_good, no_right, vehicle_test, closing_test, same_vehicle_tests, same_closing_tests}
 use Rattle.record.proofs.WrittenLimit.{written, same_tests}
-use Rattle.sheet.specs.declared.Examination.{Examination}
-use Rattle.sheet.specs.declared.Examination.TheVariants as examination
+use Rattle.sheet.specs.declared.Whole.{Whole}
 use Rattle.sheet.specs.Sheet.{last_of, Layouts, examined_by, layouts, examined}
 use Rattle.sheet.proofs.Examinations.{WholeSheet, whole}
 use Rattle.sheet.proofs.Layouts.{same_examination, ByNarrower, broken, refused, passed, by_narrower}
 use Rattle.valid_runs.specs.ValidRuns.{backgrounds_of}
-use Rattle.limit.specs.declared.Limit.{Limit}
 use Rattle.limit.proofs.Limits.{as_written}
-use Rattle.decision.specs.declared.Decision.{Decision}
-use Rattle.decision.specs.declared.Decision.TheVariants as decision
-use Rattle.decision.specs.Decision.{decide_by, decision_over, sheet_vehicle, sheet_closing, sheet_backgrounds, pmr_in, sheet_limit, decision_of}
+use Rattle.decision.specs.Decision.{Decision, decide_by, decision_over, sheet_vehicle, sheet_closing, sheet_backgrounds, pmr_in, sheet_limit, decision_of}
+use Rattle.decision.proofs.Results.{sheet_whole}
 use Rattle.evaluation.specs.Answer.{answer_by, answer_for, answer_of, buffer_for, buffer_of}
 use Rattle.evaluation.specs.EarlierSheets.{earlier_layouts, none_looked_up, unnamed_good, written_limit, one_background, with_written, with_one, with_one_and_written, AnsweredBy, KeptWithWritten, KeptWithoutRight, KeptUnlessBroken, ResultsKept}
 
@@ -40,23 +39,24 @@ answered_by d s b same = record { answer = ap (λ x. answer_for x (length b)) sa
 
 -- a refusal of the examination reads neither a background nor a limit; so where an examination finds the same, two decisions are one if a whole
 -- sheet gives both the same backgrounds and the same limit
-module _ (s : List ℕ) (y : Layouts) (b : Backgrounds) (l : Limit) where
+module _ (s : List ℕ) (y : Layouts) (b : Backgrounds) (l : Result ℕ Refusal) where
   abbrev Same : Type 0
-  Same = WholeSheet s (sheet_vehicle s) (sheet_closing s) → (sheet_backgrounds s ≡ b) × (sheet_limit s ≡ l)
+  Same = WholeSheet s (sheet_whole s) → (sheet_backgrounds s ≡ b) × (sheet_limit s ≡ l)
 
   where_whole : examined s ≡ examined_by y s → Same → decision_of s ≡ decision_over y b l s
   unfolding decision_of decision_over decide_by sheet_vehicle sheet_closing
   where_whole found h = by (examined s) refl
     where
-      by : (x : Examination) → examined s ≡ x → decide_by (sheet_backgrounds s) (sheet_limit s) s (examined s) ≡ decide_by b l s (examined_by y s)
-      by (examination.Refused r) e = rw (← found, e) refl
-      by (examination.Whole v z) e =
-          let w = whole s v z e in
-          let same = h (whole s (sheet_vehicle s) (sheet_closing s) (e ∙ cc (w.vehicle_is, w.closing_is))) in
+      by : (x : Result Whole Refusal) → examined s ≡ x → decide_by (sheet_backgrounds s) (sheet_limit s) s (examined s) ≡ decide_by b l s (examined_by y s)
+      by (Err r) e = rw (← found, e) refl
+      by (Ok w) e =
+          let f = whole s w e in
+          let ends : Ok w ≡ Ok (sheet_whole s) = ap₂ (λ (v : Vehicle) (z : Closing). Ok (record { vehicle = v; closing = z })) f.vehicle_is f.closing_is in
+          let same = h (whole s (sheet_whole s) (e ∙ ends)) in
           rw (← found, ← same.0, ← same.1) refl
 
   -- by narrower layouts a record is broken, or the decision is the same
-  kept : ByNarrower y s → (y.vehicle (record_at s 0) ≡ true → y.closing (record_at s (last_of s)) ≡ true → Same) → (decision_of s ≡ decision_over y b l s) ⊎ ((n : ℕ) × (decision_over y b l s ≡ decision.Refused (refusal.BrokenRecord n)))
+  kept : ByNarrower y s → (y.vehicle (record_at s 0) ≡ true → y.closing (record_at s (last_of s)) ≡ true → Same) → (decision_of s ≡ decision_over y b l s) ⊎ ((n : ℕ) × (decision_over y b l s ≡ Err (refusal.BrokenRecord n)))
   unfolding decision_of decision_over decide_by
   kept (broken n e) h = inr (n, ap (decide_by b l s) e)
   kept (refused r e f) h = inl (ap (decide_by (sheet_backgrounds s) (sheet_limit s) s) f ∙ sym (ap (decide_by b l s) e))
@@ -142,18 +142,18 @@ unless_broken_with_both s =
 -- ---- a sheet that had a result
 
 -- a sheet that was refused had none
-refused_not_accepted : (d : Decision) (r : Refusal) (size : ℕ) → d ≡ decision.Refused r → answer_for d size ≡ answer.Accepted → ⊥
+refused_not_accepted : (d : Decision) (r : Refusal) (size : ℕ) → d ≡ Err r → answer_for d size ≡ Ok tt → ⊥
 unfolding answer_by
 refused_not_accepted d r size e a = by (ltb size 32) (sym (ap (λ x. answer_for x size) e) ∙ a)
   where
-    by : (b : Bool) → cond b (answer.Refused refusal.ShortBuffer) (answer.Refused r) ≡ answer.Accepted → ⊥
-    by true k = let z : ◌≡◌ {A = ℕ} 0 1 = cc in omega arith
-    by false k = let z : ◌≡◌ {A = ℕ} 0 1 = cc in omega arith
+    by : (b : Bool) → ◌≡◌ {A = Answer} (cond b (Err refusal.ShortBuffer) (Err r)) (Ok tt) → ⊥
+    by true k = cc
+    by false k = cc
 
 pub results_kept : (earlier : List ℕ → Decision) → KeptUnlessBroken earlier → ResultsKept earlier
 results_kept earlier kept-or s b a = by (kept-or s)
   where
-    by : (decision_of s ≡ earlier s) ⊎ ((n : ℕ) × (earlier s ≡ decision.Refused (refusal.BrokenRecord n))) → AnsweredBy (earlier s) s b
+    by : (decision_of s ≡ earlier s) ⊎ ((n : ℕ) × (earlier s ≡ Err (refusal.BrokenRecord n))) → AnsweredBy (earlier s) s b
     by (inl same) = answered_by (earlier s) s b same
     by (inr e) = absurd (refused_not_accepted (earlier s) (refusal.BrokenRecord e.0) (length b) e.1 a)
 

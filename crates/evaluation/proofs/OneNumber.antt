@@ -2,12 +2,11 @@
 use mathlib.Core.Path.{◌≡◌, refl, ap}
 use Prim.Native.Nat.{ℕ}
 use lib.ListN.{length}
+use Rattle.std.specs.Prelude.{Ok, Err}
 use Rattle.refusal.specs.declared.Shortage.TheVariants.{TooFew, TooWide}
 use Rattle.refusal.specs.declared.Refusal.{Refusal}
 use Rattle.refusal.specs.declared.Refusal.TheVariants as refusal
-use Rattle.refusal.specs.declared.Answer.{Answer}
-use Rattle.refusal.specs.declared.Answer.TheVariants.{Accepted, Refused}
-use Rattle.refusal.specs.Refusal.{number_by, window_numbers, answer_number_by, answer_place}
+use Rattle.refusal.specs.Refusal.{number_by, window_numbers, Answer, answer_number_by, answer_place}
 use Rattle.evaluation.specs.Answer.{answer_of, buffer_of}
 use Rattle.evaluation.specs.OneNumber.{one_number, together, KeptButForShortages, ByOneNumber}
 use Rattle.evaluation.proofs.Rows.{only_on_its_cause, always_on_its_cause}
@@ -32,8 +31,8 @@ of_refusal (refusal.NoConstantSpeed g TooWide) = refl
 
 of_answer : (a : Answer) → answer_number_by one_number a ≡ together (answer_number_by window_numbers a)
 unfolding together
-of_answer Accepted = refl
-of_answer (Refused r) = of_refusal r
+of_answer (Ok tt) = refl
+of_answer (Err r) = of_refusal r
 
 pub kept_but_for_shortages : KeptButForShortages
 kept_but_for_shortages s b =

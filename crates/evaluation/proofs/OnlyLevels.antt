@@ -7,6 +7,7 @@ use native.Mathlib.Omega.{arith}
 use lib.Dec.{eqb, leb, ltb}
 use lib.Ieee.{lt}
 use borrow.Author.Tests.{lt-leb, le-ltb}
+use Rattle.std.specs.Prelude.{Some}
 use Rattle.units.proofs.Tests.{neither}
 use Rattle.record.specs.declared.Vehicle.{Vehicle}
 use Rattle.record.specs.declared.Closing.{Closing}
@@ -15,12 +16,12 @@ use Rattle.record.proofs.Shown.{byte_of}
 use Rattle.record.proofs.VehicleRanges.{vehicle_ranges}
 use Rattle.record.proofs.ClosingRanges.{closing_ranges}
 use Rattle.record.proofs.SameBytes.{SameBytes, same_word, vehicle_of, closing_of}
+use Rattle.sheet.specs.declared.Whole.{Whole}
 use Rattle.sheet.specs.Sheet.{last_of}
 use Rattle.sheet.proofs.Examinations.{WholeSheet}
 use Rattle.window.specs.declared.ValidRun.{ValidRun}
 use Rattle.window.proofs.Rising.{Risen}
 use Rattle.valid_runs.specs.declared.Condition.{Condition}
-use Rattle.valid_runs.specs.declared.Validity.TheVariants.{Valid}
 use Rattle.valid_runs.specs.ValidRuns.{backgrounds_of, candidate_of}
 use Rattle.valid_runs.proofs.Counting.{counts, levels_rising}
 use Rattle.reference.specs.Reference.{pmr_of, reference_at}
@@ -78,7 +79,7 @@ module _ (s s' : List ℕ) (only : OnlyLevels s s') where
 
 -- ---- what a session goes by
 
-module _ (s s' : List ℕ) (only : OnlyLevels s s') (v : Vehicle) (z : Closing) (w : WholeSheet s v z) where
+module _ (s s' : List ℕ) (only : OnlyLevels s s') (x : Whole) (w : WholeSheet s x) where
   pub same_vehicle : sheet_vehicle s ≡ sheet_vehicle s'
   unfolding sheet_vehicle is_run
   same_vehicle = vehicle_of (record_at s 0) (record_at s' 0) (λ k l. same_other s s' only 0 1 k (omega (arith, w.two)) (vehicle_ranges (record_at s 0) w.vehicle).kind refl l)
@@ -108,7 +109,7 @@ module _ (s s' : List ℕ) (only : OnlyLevels s s') where
 
   -- a run that counts in both, over the same backgrounds
   pub run_rising :
-      (o o' : Condition) (n : ℕ) (v v' : ValidRun) → n < records s → o.backgrounds ≡ o'.backgrounds → candidate_of s o n ≡ Valid v → candidate_of s' o' n ≡ Valid v' → lower s s' n ≡ false → Risen v v'
+      (o o' : Condition) (n : ℕ) (v v' : ValidRun) → n < records s → o.backgrounds ≡ o'.backgrounds → candidate_of s o n ≡ Some v → candidate_of s' o' n ≡ Some v' → lower s s' n ≡ false → Risen v v'
   unfolding lower float_at
   run_rising o o' n v v' h b e e' low =
       let c = counts s o n v e in

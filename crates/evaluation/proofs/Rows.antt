@@ -10,25 +10,20 @@ use lib.ListN.{length, get_or, drop}
 use lib.Dec.{T, leb, ltb, leb→le}
 use lib.Ieee.Fits.{and_l, and_r}
 use borrow.Author.Tests.{ltb-true, ltb-false}
+use Rattle.std.specs.Prelude.{Option, Some, None as Nothing, Result, Ok, Err}
 use Rattle.units.specs.Tests.{all_of}
 use Rattle.refusal.specs.declared.Shortage.{Shortage}
 use Rattle.refusal.specs.declared.Shortage.TheVariants.{TooFew, TooWide}
 use Rattle.refusal.specs.declared.Refusal.{Refusal}
 use Rattle.refusal.specs.declared.Refusal.TheVariants as refusal
-use Rattle.refusal.specs.declared.Answer.{Answer}
-use Rattle.refusal.specs.declared.Answer.TheVariants as answer
-use Rattle.refusal.specs.Refusal.{by_shortage, WindowNumbers, window_numbers, number_by, place_of, answer_number_by, answer_number, answer_place}
+use Rattle.refusal.specs.Refusal.{by_shortage, WindowNumbers, window_numbers, number_by, place_of, Answer, answer_number_by, answer_number, answer_place}
 use Rattle.refusal.proofs.Numbers.{accepted_by_0}
+use Rattle.record.specs.declared.RunKind.TheVariants.{Acceleration, ConstantSpeed}
 use Rattle.record.specs.Records.{records}
-use Rattle.sheet.specs.declared.Examination.{Examination}
-use Rattle.sheet.specs.declared.Examination.TheVariants as examination
+use Rattle.sheet.specs.declared.Whole.{Whole}
 use Rattle.sheet.specs.Sheet.{wrong_size, no_vehicle, no_closing, lowest_broken, examined_by, examined, any_acceleration}
 use Rattle.window.specs.declared.Four.{Four}
-use Rattle.window.specs.declared.Window.{Window}
-use Rattle.window.specs.declared.Window.TheVariants as window
 use Rattle.reference.specs.declared.Reference.{Reference}
-use Rattle.limit.specs.declared.Limit.{Limit}
-use Rattle.limit.specs.declared.Limit.TheVariants as limits
 use Rattle.limit.specs.Limits.{no_limit_for_n1, no_limit_entry, limit_of}
 use Rattle.gears.specs.declared.Gear.{Gear}
 use Rattle.gears.specs.declared.Choice.{Choice}
@@ -37,9 +32,8 @@ use Rattle.gears.specs.Rules.{first_not_falling}
 use Rattle.session.specs.declared.WithoutWindow.{WithoutWindow}
 use Rattle.session.specs.Session.{Session, shortage_in, lowest_no_window, without_window, gears_of, windows_of}
 use Rattle.session.proofs.Tables.{missing_is}
-use Rattle.decision.specs.declared.Decision.{Decision}
-use Rattle.decision.specs.declared.Decision.TheVariants as decision
-use Rattle.decision.specs.Decision.{out_of_range, measured_by, measured_at, one_of, pair_of, selected_in, finish_by, decide_gears, unless_without, decide_whole, decide_limited, decide_by, decision_over, sheet_vehicle, sheet_closing, sheet_backgrounds, pmr_in, sheet_limit, decision_of, sheet_session, reference_in, choice_in}
+use Rattle.decision.specs.Decision.{Decision, out_of_range, measured_by, measured_at, one_of, pair_of, selected_in, finish_by, decide_gears, unless_without, decide_whole, decide_limited, decide_by, decision_over, sheet_vehicle, sheet_closing, sheet_backgrounds, pmr_in, sheet_limit, decision_of, sheet_session, reference_in, choice_in}
+use Rattle.decision.proofs.Results.{sheet_whole}
 use Rattle.evaluation.specs.Answer.{answer_by, answer_of}
 use Rattle.evaluation.specs.Rows.{Row, undecided, missing, gear_number, no_constant, lowest_no_constant, rows_by, rows, empty_row, First, None}
 
@@ -117,35 +111,35 @@ module _ (numbers : WindowNumbers) where
   decided : Decision → Told
   decided d = tells (answer_by d)
 
-  of_refusal : (r : Refusal) → decided (decision.Refused r) ≡ told (number_by numbers r) (place_of r)
+  of_refusal : (r : Refusal) → decided (Err r) ≡ told (number_by numbers r) (place_of r)
   unfolding decided answer_by tells
   of_refusal r = refl
 
   -- the windows u and w of gears i and j, with the shortage of each gear where there is none
   module _ (r : Reference) (limit : ℕ) (short : ℕ → Shortage) where
-    abbrev Shown : Gear → Window → Type 0
-    Shown g w = (x : Shortage) → w ≡ window.Nothing x → x ≡ short g.number
+    abbrev Shown : Gear → Result Four Shortage → Type 0
+    Shown g w = (x : Shortage) → w ≡ Err x → x ≡ short g.number
 
-    after_one : (rule : ℕ) (g : Gear) (f : Four) (w : Window) → Shown g w → decided (finish_by r limit (one_of rule (measured_by g f w))) ≡ cond (missing w) (told (numbers.constant (short g.number)) g.number) (told 0 0)
+    after_one : (rule : ℕ) (g : Gear) (f : Four) (w : Result Four Shortage) → Shown g w → decided (finish_by r limit (one_of rule (measured_by g f w))) ≡ cond (missing w) (told (numbers.constant (short g.number)) g.number) (told 0 0)
     unfolding decided answer_by tells finish_by one_of measured_by
-    after_one rule g f (window.Runs h) shown = refl
-    after_one rule g f (window.Nothing x) shown = ap (λ (y : Shortage). told (numbers.constant y) g.number) (shown x refl)
+    after_one rule g f (Ok h) shown = refl
+    after_one rule g f (Err x) shown = ap (λ (y : Shortage). told (numbers.constant y) g.number) (shown x refl)
 
     after_pair :
-        (rule : ℕ) (i : Gear) (f : Four) (u : Window) (j : Gear) (g : Four) (w : Window) → Shown i u → Shown j w → decided (finish_by r limit (pair_of rule (measured_by i f u) (measured_by j g w)))
+        (rule : ℕ) (i : Gear) (f : Four) (u : Result Four Shortage) (j : Gear) (g : Four) (w : Result Four Shortage) → Shown i u → Shown j w → decided (finish_by r limit (pair_of rule (measured_by i f u) (measured_by j g w)))
         ≡ cond (missing u || missing w) (let gear = cond (missing u) i.number j.number in told (numbers.constant (short gear)) gear) (told 0 0)
     unfolding decided answer_by tells finish_by pair_of measured_by
-    after_pair rule i f (window.Runs h) j g (window.Runs k) shown also = refl
-    after_pair rule i f (window.Runs h) j g (window.Nothing x) shown also = ap (λ (y : Shortage). told (numbers.constant y) j.number) (also x refl)
-    after_pair rule i f (window.Nothing x) j g w shown also = ap (λ (y : Shortage). told (numbers.constant y) i.number) (shown x refl)
+    after_pair rule i f (Ok h) j g (Ok k) shown also = refl
+    after_pair rule i f (Ok h) j g (Err x) shown also = ap (λ (y : Shortage). told (numbers.constant y) j.number) (also x refl)
+    after_pair rule i f (Err x) j g w shown also = ap (λ (y : Shortage). told (numbers.constant y) i.number) (shown x refl)
 
   after_choice :
-      (r : Reference) (limit : ℕ) (t : Session) (c : Choice) → decided (finish_by r limit (selected_in t (gears_of t) (windows_of t) c))
-      ≡ cond (undecided c) (told 9 0) (cond (no_constant t c) (told (numbers.constant (shortage_in t 3 (lowest_no_constant t c))) (lowest_no_constant t c)) (told 0 0))
+      (r : Reference) (limit : ℕ) (t : Session) (c : Option Choice) → decided (finish_by r limit (selected_in t (gears_of t) (windows_of t) c))
+      ≡ cond (undecided c) (told 9 0) (cond (no_constant t c) (told (numbers.constant (shortage_in t ConstantSpeed (lowest_no_constant t c))) (lowest_no_constant t c)) (told 0 0))
   unfolding decided answer_by tells finish_by selected_in measured_at
-  after_choice r limit t (choice.One rule p) = after_one r limit (shortage_in t 3) rule _ _ _ (missing_is t 3 (gear_number t p))
-  after_choice r limit t (choice.Pair rule p) = after_pair r limit (shortage_in t 3) rule _ _ _ _ _ _ (missing_is t 3 (gear_number t p)) (missing_is t 3 (gear_number t (p + 1)))
-  after_choice r limit t choice.Nothing = refl
+  after_choice r limit t (Some (choice.One rule p)) = after_one r limit (shortage_in t ConstantSpeed) rule _ _ _ (missing_is t ConstantSpeed (gear_number t p))
+  after_choice r limit t (Some (choice.Pair rule p)) = after_pair r limit (shortage_in t ConstantSpeed) rule _ _ _ _ _ _ (missing_is t ConstantSpeed (gear_number t p)) (missing_is t ConstantSpeed (gear_number t (p + 1)))
+  after_choice r limit t Nothing = refl
 
 module _ (numbers : WindowNumbers) (s : List ℕ) (size : ℕ) where
   whole : (limit : ℕ) → decided numbers (decide_whole (sheet_session s) (pmr_in s) limit) ≡ first (drop 7 (rows_by numbers s size))
@@ -155,13 +149,13 @@ module _ (numbers : WindowNumbers) (s : List ℕ) (size : ℕ) where
       let gears : Decision = decide_gears (reference_in s) limit t (gears_of t) (windows_of t) in
       step (decided numbers) (out_of_range (pmr_in s)) _ _ _ _ (of_refusal numbers refusal.PmrOutOfRange)
       (step (decided numbers) (not (any_acceleration s)) _ _ _ _ (of_refusal numbers refusal.NoRun)
-      (step (λ (w : WithoutWindow). decided numbers (unless_without w gears)) (ltb (lowest_no_window t) 16) _ _ _ _ (of_refusal numbers (refusal.NoWindow _ _))
+      (step (λ (w : Option WithoutWindow). decided numbers (unless_without w gears)) (ltb (lowest_no_window t) 16) _ _ _ _ (of_refusal numbers (refusal.NoWindow _ _))
       (step (decided numbers) (ltb (first_not_falling (gears_of t)) (length (gears_of t) - 1)) _ _ _ _ (of_refusal numbers (refusal.NotFalling _)) (after_choice numbers (reference_in s) limit t (choice_in s)))))
 
-  with_limit : Limit → Told
+  with_limit : Result ℕ Refusal → Told
   with_limit l = decided numbers (decide_limited (sheet_session s) (pmr_in s) l)
 
-  without_limit : (r : Refusal) → with_limit (limits.Refused r) ≡ told (number_by numbers r) (place_of r)
+  without_limit : (r : Refusal) → with_limit (Err r) ≡ told (number_by numbers r) (place_of r)
   unfolding with_limit decide_limited
   without_limit r = of_refusal numbers r
 
@@ -171,14 +165,14 @@ module _ (numbers : WindowNumbers) (s : List ℕ) (size : ℕ) where
       step with_limit (no_limit_for_n1 (sheet_vehicle s)) _ _ _ _ (without_limit refusal.NoLimitForN1)
       (step with_limit (no_limit_entry (sheet_vehicle s)) _ _ _ _ (without_limit refusal.NoLimitEntry) (whole _))
 
-  of : Examination → Told
+  of : Result Whole Refusal → Told
   of e = decided numbers (decide_by (sheet_backgrounds s) (sheet_limit s) s e)
 
-  of_refused : (r : Refusal) → of (examination.Refused r) ≡ told (number_by numbers r) (place_of r)
+  of_refused : (r : Refusal) → of (Err r) ≡ told (number_by numbers r) (place_of r)
   unfolding of decide_by
   of_refused r = of_refusal numbers r
 
-  of_whole : of (examination.Whole (sheet_vehicle s) (sheet_closing s)) ≡ first (drop 5 (rows_by numbers s size))
+  of_whole : of (Ok (sheet_whole s)) ≡ first (drop 5 (rows_by numbers s size))
   unfolding of decide_by sheet_session pmr_in with_limit
   of_whole = limited
 
@@ -193,7 +187,7 @@ module _ (numbers : WindowNumbers) (s : List ℕ) (size : ℕ) where
   -- the answer tells the first row that holds
   tells_first : tells numbers (answer_of s size) ≡ first (rows_by numbers s size)
   unfolding answer_of decision_of decision_over of decided tells rows_by first
-  tells_first = step (tells numbers) (ltb size 32) (answer.Refused refusal.ShortBuffer) (answer_by (decide_by (sheet_backgrounds s) (sheet_limit s) s (examined s))) _ _ refl of_examined
+  tells_first = step (tells numbers) (ltb size 32) (Err refusal.ShortBuffer) (answer_by (decide_by (sheet_backgrounds s) (sheet_limit s) s (examined s))) _ _ refl of_examined
 
   answered : Found (rows_by numbers s size) (tells numbers (answer_of s size))
   answered = rw tells_first (found (rows_by numbers s size))
@@ -218,18 +212,18 @@ module _ (numbers : WindowNumbers) (s : List ℕ) (size : ℕ) where
 
 module _ (s : List ℕ) (size : ℕ) where
   -- a sheet is accepted where no cause holds, and only there
-  pub accepted_without_cause : None (rows s size) → answer_of s size ≡ answer.Accepted
+  pub accepted_without_cause : None (rows s size) → answer_of s size ≡ Ok tt
   unfolding tells told
   accepted_without_cause none = by (answered window_numbers s size)
     where
-      by : Found (rows s size) (tells window_numbers (answer_of s size)) → answer_of s size ≡ answer.Accepted
+      by : Found (rows s size) (tells window_numbers (answer_of s size)) → answer_of s size ≡ Ok tt
       by (at g) = absurd (true≢false (sym g.holds ∙ none g.at))
       by (never g z) = accepted_by_0 (answer_of s size) (ap (λ (t : Told). t.number) z)
 
   -- every row has a number, whatever the shortages
   all_numbered : T (all_of (map (λ (r : Row). leb 1 r.number) (rows s size)))
   unfolding rows_by
-  all_numbered = by (shortage_in (sheet_session s) 2 (lowest_no_window (sheet_session s) + 1)) (shortage_in (sheet_session s) 3 (lowest_no_constant (sheet_session s) (choice_in s)))
+  all_numbered = by (shortage_in (sheet_session s) Acceleration (lowest_no_window (sheet_session s) + 1)) (shortage_in (sheet_session s) ConstantSpeed (lowest_no_constant (sheet_session s) (choice_in s)))
     where
       by : (x y : Shortage) → T (leb 1 (by_shortage 7 14 x) && (leb 1 (by_shortage 10 15 y) && true))
       by TooFew TooFew = tt
@@ -237,7 +231,7 @@ module _ (s : List ℕ) (size : ℕ) where
       by TooWide TooFew = tt
       by TooWide TooWide = tt
 
-  pub without_cause_if_accepted : answer_of s size ≡ answer.Accepted → None (rows s size)
+  pub without_cause_if_accepted : answer_of s size ≡ Ok tt → None (rows s size)
   unfolding tells told
   without_cause_if_accepted e = by (answered window_numbers s size)
     where

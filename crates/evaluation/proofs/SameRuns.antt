@@ -4,11 +4,12 @@ use mathlib.Core.Path.{◌≡◌, refl, ap₂, ◌∙◌}
 use mathlib.Core.List.{List, [], ◌++◌}
 use Prim.Native.Nat.{ℕ, ◌+◌, ◌-◌, ◌*◌, ◌≤◌, ◌<◌}
 use native.Mathlib.Omega.{arith}
-use Rattle.record.specs.Records.{records, record_at, byte}
+use Rattle.std.specs.Prelude.{Ok}
+use Rattle.record.specs.declared.RunKind.TheVariants.{Acceleration, ConstantSpeed}
+use Rattle.record.specs.Records.{records, record_at, byte, kind_byte}
 use Rattle.sheet.proofs.Examinations.{WholeSheet}
 use Rattle.window.specs.declared.ValidRun.{ValidRun}
 use Rattle.window.specs.declared.Four.{Four}
-use Rattle.window.specs.declared.Window.TheVariants as window
 use Rattle.valid_runs.specs.declared.Condition.{Condition}
 use Rattle.valid_runs.specs.ValidRuns.{window_of}
 use Rattle.valid_runs.proofs.Counting.{counts}
@@ -17,11 +18,10 @@ use Rattle.session.specs.Session.{condition_of}
 use Rattle.urban.specs.declared.ChosenGear.{ChosenGear}
 use Rattle.urban.specs.declared.Chosen.{Chosen}
 use Rattle.urban.specs.declared.Chosen.TheVariants.{One, Pair}
-use Rattle.urban.specs.declared.Outcome.{Outcome}
-use Rattle.decision.specs.declared.Selection.TheVariants as selection
-use Rattle.decision.specs.Decision.{sheet_vehicle, sheet_closing, sheet_session, selection_in}
+use Rattle.decision.specs.declared.Judged.{Judged}
+use Rattle.decision.specs.Decision.{sheet_session, selection_in}
 use Rattle.decision.proofs.Selections.{IsMeasured, Measuring}
-use Rattle.decision.proofs.Results.{Decided}
+use Rattle.decision.proofs.Results.{sheet_whole, Decided}
 use Rattle.figure.specs.Figure.{accelerating, constant}
 use Rattle.evaluation.specs.Demand.{numbers_of, runs_of, chosen_runs_by, chosen_runs, is_chosen, OnlyLevels}
 use Rattle.evaluation.proofs.OnlyLevels.{same_records, same_before}
@@ -46,13 +46,13 @@ record Keyed (K : ℕ → ℕ) (x : ℕ) (f : Four) : Type 0 where
   most : f.d.number < 65536
 
 module _ (K : ℕ → ℕ) (t : List ℕ) (few : records t ≤ 1024) (same : (n : ℕ) → n < records t → K n ≡ key t n) where
-  keyed : (o : Condition) (f : Four) → window_of t o ≡ window.Runs f → Keyed K (group o.gear o.kind) f
+  keyed : (o : Condition) (f : Four) → window_of t o ≡ Ok f → Keyed K (group o.gear (kind_byte o.kind)) f
   unfolding key
   keyed o f e =
       let m = window_members t o f e in
       record { a = of f.a m.a; b = of f.b m.b; c = of f.c m.c; d = of f.d m.d; order = window_in_order t o f e; most = omega (arith, m.d.last) }
     where
-      of : (v : ValidRun) → Member t o 1 (records t - 2) v → K v.number ≡ 65536 * group o.gear o.kind + v.number
+      of : (v : ValidRun) → Member t o 1 (records t - 2) v → K v.number ≡ 65536 * group o.gear (kind_byte o.kind) + v.number
       of v m =
           let c = counts t o v.number v m.is in
           same v.number (omega (arith, m.first, m.last)) ∙ ap₂ (λ (g : ℕ) (k : ℕ). 65536 * group g k + v.number) c.is_gear c.is_kind
@@ -69,22 +69,22 @@ module _ (K : ℕ → ℕ) (t : List ℕ) (few : records t ≤ 1024) (same : (n 
   gear_rises : (g : ChosenGear) (low : ℕ) (rest : List ℕ) → IsMeasured (sheet_session t) g → low ≤ 65536 * group g.gear.number 2 → Rises K (65536 * group g.gear.number 4) rest → Rises K low (runs_of g ++ rest)
   unfolding sheet_session group
   gear_rises g low rest m h r =
-      let fast = keyed K t few same (condition_of (sheet_session t).track 2 g.gear.number) (accelerating g) m.accelerating in
-      let slow = keyed K t few same (condition_of (sheet_session t).track 3 g.gear.number) (constant g) m.constant in
+      let fast = keyed K t few same (condition_of (sheet_session t).track Acceleration g.gear.number) (accelerating g) m.accelerating in
+      let slow = keyed K t few same (condition_of (sheet_session t).track ConstantSpeed g.gear.number) (constant g) m.constant in
       let next : 65536 * (group g.gear.number 3 + 1) ≡ 65536 * group g.gear.number 4 = omega arith in
       four_rises K (group g.gear.number 2) low (accelerating g) (numbers_of (constant g) ++ rest) fast h
       (four_rises K (group g.gear.number 3) (65536 * (group g.gear.number 2 + 1)) (constant g) rest slow (omega arith) (rw next r))
 
-  chosen_rises : (g : Chosen) → Measuring (sheet_session t) (selection.Chosen g) → Rises K 0 (chosen_runs_by (selection.Chosen g))
+  chosen_rises : (g : Chosen) → Measuring (sheet_session t) (Ok g) → Rises K 0 (chosen_runs_by (Ok g))
   unfolding Rises group
   chosen_rises (One rule g) m = gear_rises g 0 [] m (omega arith) tt
   chosen_rises (Pair rule i j) m = gear_rises i 0 (runs_of j) m.0 (omega arith) (gear_rises j (65536 * group i.gear.number 4) [] m.1 (omega (arith, m.2)) tt)
 
-  runs_rise : (g : Chosen) → selection_in t ≡ selection.Chosen g → Measuring (sheet_session t) (selection.Chosen g) → Rises K 0 (chosen_runs t)
+  runs_rise : (g : Chosen) → selection_in t ≡ Ok g → Measuring (sheet_session t) (Ok g) → Rises K 0 (chosen_runs t)
   unfolding chosen_runs
   runs_rise g e m = rw e (chosen_rises g m)
 
-few_records : (s : List ℕ) → WholeSheet s (sheet_vehicle s) (sheet_closing s) → records s ≤ 1024
+few_records : (s : List ℕ) → WholeSheet s (sheet_whole s) → records s ≤ 1024
 unfolding records
 few_records s w = w.size.few
 
@@ -97,8 +97,8 @@ module _ (s s' : List ℕ) (only : OnlyLevels s s') where
       let inside : n < records s = omega (arith, same_records s s' only) in
       ap₂ (λ (g : ℕ) (k : ℕ). 65536 * group g k + n) (same_before s s' only n 1 inside (omega arith)) (same_before s s' only n 0 inside (omega arith))
 
-  pub same_list : (o o' : Outcome) (limit limit' : ℕ) → Decided s o limit → Decided s' o' limit' → ((n : ℕ) → is_chosen s n ≡ is_chosen s' n) → chosen_runs s ≡ chosen_runs s'
-  same_list o o' limit limit' d d' same =
+  pub same_list : (j j' : Judged) → Decided s j → Decided s' j' → ((n : ℕ) → is_chosen s n ≡ is_chosen s' n) → chosen_runs s ≡ chosen_runs s'
+  same_list j j' d d' same =
       one_list (key s) 0 (chosen_runs s) (chosen_runs s')
       (runs_rise (key s) s (few_records s d.sheet) (λ n h. refl) d.chosen_gears d.chosen_is d.measured)
       (runs_rise (key s) s' (few_records s' d'.sheet) same_key d'.chosen_gears d'.chosen_is d'.measured)

@@ -1,6 +1,6 @@
 -- Demand 3 on sheets (document 01, second half of "L_urban"): the chosen runs of an accepted sheet, its figure, how close the reported L_urban is
 -- to it, and how it compares with that of a sheet in which no chosen run is lower. All are definitions of the sheets' bytes.
-use Rattle.std.specs.Prelude.{◌≡◌, Bool, true, false, ◌&&◌, ◌||◌, List, [], ◌∷◌, ◌++◌, ℕ, ◌/◌, ◌%◌, ◌≤◌, eqb, leb, ltb, Float, length, get_or}
+use Rattle.std.specs.Prelude.{◌≡◌, Bool, true, false, ◌&&◌, ◌||◌, List, [], ◌∷◌, ◌++◌, ℕ, ◌/◌, ◌%◌, ◌≤◌, eqb, leb, ltb, Float, length, get_or, Ok, Err}
 use Rattle.std.specs.Float.{binary32}
 use Rattle.std.specs.Float.Ieee.{of_bits, lt}
 use Rattle.units.specs.Bytes.{number}
@@ -10,9 +10,7 @@ use Rattle.window.specs.declared.Four.{Four}
 use Rattle.reference.specs.declared.Reference.{Reference}
 use Rattle.urban.specs.declared.ChosenGear.{ChosenGear}
 use Rattle.urban.specs.declared.Chosen.TheVariants.{One, Pair}
-use Rattle.decision.specs.declared.Selection.{Selection}
-use Rattle.decision.specs.declared.Selection.TheVariants as selection
-use Rattle.decision.specs.Decision.{reference_in, selection_in}
+use Rattle.decision.specs.Decision.{Selection, reference_in, selection_in}
 use Rattle.figure.specs.Fractions.{Frac, ◌over◌, apart, ◌≼◌}
 use Rattle.figure.specs.Figure.{accelerating, constant, figure, bound}
 use Rattle.evaluation.specs.Answer.{IsAccepted, buffer_of}
@@ -21,12 +19,12 @@ use Rattle.evaluation.specs.Answer.{IsAccepted, buffer_of}
 
 -- the figure of an accepted sheet, and the bound 0.6 + 0.005 × (Dk + Dp), in dB (a sheet without chosen gears has neither: 0)
 unfoldable pub figure_by : Reference → Selection → Frac
-figure_by r (selection.Refused x) = 0 over 1
-figure_by r (selection.Chosen c) = figure r c
+figure_by r (Err x) = 0 over 1
+figure_by r (Ok c) = figure r c
 
 unfoldable pub bound_by : Reference → Selection → Frac
-bound_by r (selection.Refused x) = 0 over 1
-bound_by r (selection.Chosen c) = bound r c
+bound_by r (Err x) = 0 over 1
+bound_by r (Ok c) = bound r c
 
 unfoldable pub figure_of : List ℕ → Frac
 figure_of s = figure_by (reference_in s) (selection_in s)
@@ -49,9 +47,9 @@ runs_of g = numbers_of (accelerating g) ++ numbers_of (constant g)
 
 -- those of the one gear, or of gear i and then of gear j
 abbrev pub chosen_runs_by : Selection → List ℕ
-chosen_runs_by (selection.Refused x) = []
-chosen_runs_by (selection.Chosen (One rule g)) = runs_of g
-chosen_runs_by (selection.Chosen (Pair rule i j)) = runs_of i ++ runs_of j
+chosen_runs_by (Err x) = []
+chosen_runs_by (Ok (One rule g)) = runs_of g
+chosen_runs_by (Ok (Pair rule i j)) = runs_of i ++ runs_of j
 
 unfoldable pub chosen_runs : List ℕ → List ℕ
 chosen_runs s = chosen_runs_by (selection_in s)

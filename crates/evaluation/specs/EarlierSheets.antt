@@ -3,18 +3,14 @@
 -- or without both, is the same definition with other layouts, backgrounds or another limit. A byte string keeps its answer and its buffer unless
 -- that evaluation refuses it with 5; if it does so for one of these bytes, the sheet may be accepted with the wishes, or be refused for something
 -- else.
-use Rattle.std.specs.Prelude.{◌≡◌, Bool, true, false, List, ◌⊎◌, ℕ, length}
+use Rattle.std.specs.Prelude.{◌≡◌, Bool, true, false, List, ◌⊎◌, ℕ, length, Result, Ok, Err}
 use Rattle.units.specs.Tests.{all_of}
+use Rattle.refusal.specs.declared.Refusal.{Refusal}
 use Rattle.refusal.specs.declared.Refusal.TheVariants.{BrokenRecord}
-use Rattle.refusal.specs.declared.Answer.TheVariants.{Accepted}
 use Rattle.record.specs.declared.Backgrounds.{Backgrounds}
 use Rattle.record.specs.Records.{record_at, byte, zeros, right_good, looked_up, vehicle_tests, closing_tests}
 use Rattle.sheet.specs.Sheet.{last_of, Layouts}
-use Rattle.limit.specs.declared.Limit.{Limit}
-use Rattle.limit.specs.declared.Limit.TheVariants.{Found}
-use Rattle.decision.specs.declared.Decision.{Decision}
-use Rattle.decision.specs.declared.Decision.TheVariants.{Refused}
-use Rattle.decision.specs.Decision.{decision_over, sheet_vehicle, sheet_backgrounds, sheet_limit, decision_of}
+use Rattle.decision.specs.Decision.{Decision, decision_over, sheet_vehicle, sheet_backgrounds, sheet_limit, decision_of}
 use Rattle.evaluation.specs.Answer.{answer_for, answer_of, buffer_for, buffer_of}
 
 -- ---- what earlier evaluations have otherwise
@@ -32,8 +28,8 @@ abbrev pub unnamed_good : List ℕ → ℕ → Bool
 unnamed_good r at = zeros r at 2
 
 -- the number in the limit field is the limit, whatever it is, and rows 11 and 12 are left out
-unfoldable pub written_limit : List ℕ → Limit
-written_limit s = Found (sheet_vehicle s).limit
+unfoldable pub written_limit : List ℕ → Result ℕ Refusal
+written_limit s = Ok (sheet_vehicle s).limit
 
 -- both sides have the larger of the left's before and after
 unfoldable pub one_background : List ℕ → Backgrounds
@@ -76,8 +72,8 @@ KeptWithoutRight = (s b : List ℕ) → NoRight s → AnsweredBy (with_one s) s 
 
 -- Of any byte string, an earlier evaluation decides the same, or it refuses a record for its layout.
 abbrev pub KeptUnlessBroken : (List ℕ → Decision) → Type 0
-KeptUnlessBroken earlier = (s : List ℕ) → (decision_of s ≡ earlier s) ⊎ ((n : ℕ) × (earlier s ≡ Refused (BrokenRecord n)))
+KeptUnlessBroken earlier = (s : List ℕ) → (decision_of s ≡ earlier s) ⊎ ((n : ℕ) × (earlier s ≡ Err (BrokenRecord n)))
 
 -- So a sheet that it accepts keeps its answer and every byte of its buffer.
 abbrev pub ResultsKept : (List ℕ → Decision) → Type 0
-ResultsKept earlier = (s b : List ℕ) → answer_for (earlier s) (length b) ≡ Accepted → AnsweredBy (earlier s) s b
+ResultsKept earlier = (s b : List ℕ) → answer_for (earlier s) (length b) ≡ Ok tt → AnsweredBy (earlier s) s b

@@ -1,11 +1,9 @@
 -- The limit of an accepted sheet, and its verdict (document 01, "L_urban"; document 02, wish 1).
-use Rattle.std.specs.Prelude.{◌≡◌, true, List, ◌⊎◌, ℕ, ◌≤◌, leb, length}
+use Rattle.std.specs.Prelude.{◌≡◌, true, List, ◌⊎◌, ℕ, ◌≤◌, leb, length, Ok}
 use Rattle.record.specs.Records.{record_at, byte, word, looked_up}
-use Rattle.limit.specs.declared.Limit.TheVariants.{Found}
 use Rattle.limit.specs.Limits.{table_limit}
 use Rattle.urban.specs.declared.Outcome.{Outcome}
 use Rattle.urban.specs.Urban.{flag}
-use Rattle.decision.specs.declared.Decision.TheVariants.{Result}
 use Rattle.decision.specs.Decision.{pmr_in, sheet_limit, decision_of}
 use Rattle.evaluation.specs.Answer.{buffer_of, IsAccepted}
 
@@ -25,10 +23,10 @@ pub record FromField (s : List ℕ) (limit : ℕ) : Type 0 where
 -- above it, else 0.
 pub record PassByLimit (s b : List ℕ) : Type 0 where
   pub limit : ℕ
-  pub found : sheet_limit s ≡ Found limit
+  pub found : sheet_limit s ≡ Ok limit
   pub source : FromTable s limit ⊎ FromField s limit
   pub outcome : Outcome
-  pub handed_on : decision_of s ≡ Result outcome limit
+  pub handed_on : decision_of s ≡ Ok (record { outcome = outcome; limit = limit })
   pub pass : byte (buffer_of s b) 5 ≡ flag (leb (word (buffer_of s b) 10) limit)
 
 abbrev pub AllByLimit : Type 0

@@ -1,9 +1,7 @@
 -- What `level` says of a bit pattern, and how the walk goes from one float to the next.
-use Rattle.std.specs.Prelude.{ℕ, ◌+◌, ◌*◌, Bool, cond, nat_le, nat_lt}
+use Rattle.std.specs.Prelude.{ℕ, ◌+◌, ◌*◌, Bool, Option, Some, None, cond, nat_le, nat_lt}
 use Rattle.level.specs.declared.Reading.{Reading}
 use Rattle.level.specs.declared.Reading.TheVariants.{Level, Overload, Absent}
-use Rattle.level.specs.declared.Found.{Found}
-use Rattle.level.specs.declared.Found.TheVariants.{Good, Broken}
 use Rattle.level.specs.Reading.{in_range}
 use Rattle.level.specs.Level.{tenths_of}
 
@@ -13,9 +11,9 @@ tenths_read (Level x) = cond (in_range x) (tenths_of x) 0
 tenths_read (Overload x) = 0
 tenths_read Absent = 0
 
-unfoldable pub tenths_found : Found → ℕ
-tenths_found (Good r) = tenths_read r
-tenths_found Broken = 0
+unfoldable pub tenths_found : Option Reading → ℕ
+tenths_found (Some r) = tenths_read r
+tenths_found None = 0
 
 -- for a value of n × 2^-19, from 16 on, how far the next float is: it doubles at 32, at 64 and at 128
 abbrev pub spacing : ℕ → ℕ

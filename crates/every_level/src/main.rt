@@ -7,7 +7,7 @@ ghost use Rattle.units.specs.Bytes.{number};
 ghost use Rattle.level.specs.Reading.{reading_of};
 ghost use Rattle.every_level.specs.Walking.{tenths_read, tenths_found, spacing, reached};
 
-use level::{Found, Reading};
+use level::Reading;
 use std::io;
 
 // The pattern of 20.0, and 20.0 and 140.0 as numbers of 2^-19.
@@ -30,7 +30,7 @@ struct Walk {
 
 // What was found: how many floats, how many whose tenths differ, the sum of the tenths, and the sum of these sums, which depends on the
 // order too.
-#[derive(Clone, Copy)]
+#[derive(Clone, Copy, Default)]
 struct Tally {
     count: u64,
     differ: u64,
@@ -49,38 +49,26 @@ struct Part {
 fn bytes_of(pattern: u32) -> [u8; 4]
     ensures { number result 0 4 ≡ pattern }
 {
-    [
-        (pattern % 256) as u8,
-        (pattern / 256 % 256) as u8,
-        (pattern / 65536 % 256) as u8,
-        (pattern / 16777216) as u8,
-    ]
+    pattern.to_le_bytes()
 }
 
+// The tenths of a level in range, and 0 of anything else.
+#[tactic(auto, unfolding(crate::specs::Walking::tenths_read))]
 fn tenths_read(reading: Reading) -> u16
     ensures { result ≡ tenths_read reading }
 {
     match reading {
-        Reading::Level(x) => {
-            if level::in_range(x) {
-                level::tenths(x).0
-            } else {
-                0
-            }
-        }
-        Reading::Overload(_) => 0,
-        Reading::Absent => 0,
+        Reading::Level(x) if level::in_range(x) => level::tenths(x).0,
+        Reading::Level(_) | Reading::Overload(_) | Reading::Absent => 0,
     }
 }
 
 // The tenths of the level in four bytes, or 0 if they are no level.
+#[tactic(auto, unfolding(crate::specs::Walking::tenths_found))]
 fn tenths_of(four: &[u8; 4]) -> u16
     ensures { result ≡ tenths_found (reading_of 1 (number four.now 0 4)) }
 {
-    match level::reading_at(1, four, 0) {
-        Found::Good(reading) => tenths_read(reading),
-        Found::Broken => 0,
-    }
+    level::reading_at(1, four, 0).map_or(0, tenths_read)
 }
 
 // How far the next float is.
@@ -114,12 +102,12 @@ fn next(w: Walk) -> Walk
 {
     let value = w.value + spacing(w.value);
     let tenth = if reached(value, w.tenth) {
-        std::num::wrapping_add_u16(w.tenth, 1)
+        w.tenth.wrapping_add(1)
     } else {
         w.tenth
     };
     Walk {
-        pattern: std::num::wrapping_add_u32(w.pattern, 1),
+        pattern: w.pattern.wrapping_add(1),
         value,
         tenth,
     }
@@ -127,13 +115,12 @@ fn next(w: Walk) -> Walk
 
 // One float more, with the tenths that were given and those that were reckoned.
 fn counted(t: Tally, given: u16, reckoned: u16) -> Tally {
-    let differ = if given == reckoned { 0 } else { 1 };
-    let sum = std::num::wrapping_add_u64(t.sum, given as u64);
+    let sum = t.sum.wrapping_add(u64::from(given));
     Tally {
-        count: std::num::wrapping_add_u64(t.count, 1),
-        differ: std::num::wrapping_add_u64(t.differ, differ),
+        count: t.count.wrapping_add(1),
+        differ: t.differ.wrapping_add(u64::from(given != reckoned)),
         sum,
-        sums: std::num::wrapping_add_u64(t.sums, sum),
+        sums: t.sums.wrapping_add(sum),
     }
 }
 
@@ -143,12 +130,7 @@ fn walk_to(from: Walk, end: u32) -> Part
     ensures { end ≤ result.walk.value }
 {
     let mut walk = from;
-    let mut tally = Tally {
-        count: 0,
-        differ: 0,
-        sum: 0,
-        sums: 0,
-    };
+    let mut tally = Tally::default();
     while walk.value < end {
         let four = bytes_of(walk.pattern);
         tally = counted(tally, tenths_of(&four), walk.tenth);
@@ -164,33 +146,36 @@ fn print_tally(rt: &impl Print, level: u32, t: Tally) -> io::Result<()> {
     )
 }
 
-// A pattern and its tenths, 0 if it is no level.
-fn print_pattern(rt: &impl Print, pattern: u32) -> io::Result<()> {
-    let tenths = tenths_of(&bytes_of(pattern));
-    println!(rt; "pattern {pattern} {tenths}")
-}
-
 // The ends of the range and the floats outside of it, infinities, NaNs, zeros, the smallest floats and negative levels.
+const PATTERNS: [u32; 19] = [
+    0x419f_ffff,
+    0x41a0_0000,
+    0x430c_0000,
+    0x430c_0001,
+    0x7f7f_ffff,
+    0x7f80_0000,
+    0xff80_0000,
+    0x7f80_0001,
+    0x7fc0_0000,
+    0x7fff_ffff,
+    0xffc0_0000,
+    0xffff_ffff,
+    0x0000_0000,
+    0x8000_0000,
+    0x0000_0001,
+    0x0080_0000,
+    0xc1a0_0000,
+    0xc2a0_0000,
+    0xc30c_0000,
+];
+
+// Each pattern and its tenths, 0 if it is no level.
 fn print_patterns(rt: &impl Print) -> io::Result<()> {
-    print_pattern(rt, 0x419f_ffff)?;
-    print_pattern(rt, 0x41a0_0000)?;
-    print_pattern(rt, 0x430c_0000)?;
-    print_pattern(rt, 0x430c_0001)?;
-    print_pattern(rt, 0x7f7f_ffff)?;
-    print_pattern(rt, 0x7f80_0000)?;
-    print_pattern(rt, 0xff80_0000)?;
-    print_pattern(rt, 0x7f80_0001)?;
-    print_pattern(rt, 0x7fc0_0000)?;
-    print_pattern(rt, 0x7fff_ffff)?;
-    print_pattern(rt, 0xffc0_0000)?;
-    print_pattern(rt, 0xffff_ffff)?;
-    print_pattern(rt, 0x0000_0000)?;
-    print_pattern(rt, 0x8000_0000)?;
-    print_pattern(rt, 0x0000_0001)?;
-    print_pattern(rt, 0x0080_0000)?;
-    print_pattern(rt, 0xc1a0_0000)?;
-    print_pattern(rt, 0xc2a0_0000)?;
-    print_pattern(rt, 0xc30c_0000)
+    for pattern in PATTERNS {
+        let tenths = tenths_of(&bytes_of(pattern));
+        println!(rt; "pattern {pattern} {tenths}")?;
+    }
+    Ok(())
 }
 
 // Each ten decibels from 20.0 to before 140.0, and where the walk stands then.
@@ -200,13 +185,10 @@ fn print_decades(rt: &impl Print) -> io::Result<Walk> {
         value: LOWEST,
         tenth: 200,
     };
-    let mut decade: u32 = 2;
-    while decade < 14 {
+    for decade in 2..14 {
         let part = walk_to(walk, (decade + 1) * TEN);
         print_tally(rt, 10 * decade, part.tally)?;
-        let reached = part.walk;
-        walk = reached;
-        decade += 1;
+        walk = part.walk;
     }
     Ok(walk)
 }

@@ -9,13 +9,12 @@ use lib.Ieee.Fits.{and_l, and_r}
 use lib.Ieee.{of_bits}
 use lib.ListN.{get_or, replicate}
 use lib.Seq.{sets}
+use Rattle.std.specs.Prelude.{Ok, Err}
 use Rattle.units.specs.Bytes.{number}
 use Rattle.units.specs.Tests.{lowest, some, past_last, all_of}
 use Rattle.units.specs.Rounding.{rounded}
 use Rattle.units.proofs.Tests.{each}
-use Rattle.refusal.specs.declared.Answer.{Answer}
-use Rattle.refusal.specs.declared.Answer.TheVariants as answer
-use Rattle.refusal.specs.Refusal.{answer_number}
+use Rattle.refusal.specs.Refusal.{Answer, answer_number}
 use Rattle.level.specs.Reading.{in_range, reading_of}
 use Rattle.level.specs.Level.{tenths_of, corrections, correction_of, corrected_side, side_of}
 use Rattle.record.specs.Records.{records, record_at, zeros, backgrounds_in, vehicle_tests, vehicle_good, vehicle_in, run_tests, run_good, run_in, reading_from, closing_tests, closing_good, closing_in, right_good}
@@ -29,8 +28,7 @@ use Rattle.gears.specs.Rules.{empty_gear, gear_at, a, first_not_falling, gap, ne
 use Rattle.session.specs.Session.{slow_enough, gear_acceleration, by_window}
 use Rattle.urban.specs.Urban.{weighed_level, basis_of, part_power, l_urban_of, outcome_of}
 use Rattle.result.specs.Result.{result_bytes, outcome_in, fields_of}
-use Rattle.decision.specs.declared.Decision.{Decision}
-use Rattle.decision.specs.Decision.{window_at, measured_by, one_of, pair_of, finish_by, unless_without, track_of, sheet_vehicle, sheet_closing, sheet_backgrounds, pmr_in, sheet_limit, sheet_session, reference_in, measured_at, selected_in, decide_gears}
+use Rattle.decision.specs.Decision.{Decision, window_at, measured_by, one_of, pair_of, finish_by, unless_without, track_of, sheet_vehicle, sheet_closing, sheet_backgrounds, pmr_in, sheet_limit, sheet_session, reference_in, measured_at, selected_in, decide_gears}
 use Rattle.evaluation.specs.Answer.{answer_by, answer_for, answer_of, buffer_by, buffer_for, buffer_of}
 use Rattle.evaluation.specs.EarlierSheets.{earlier_layouts, none_looked_up, unnamed_good, written_limit, one_background, with_written, with_one_and_written}
 use Rattle.evaluation.specs.Demand.{chosen_runs_by, chosen_runs}
@@ -111,12 +109,12 @@ louder_line =
 -- ---- a sheet without wish 1, and without wishes 1 and 8
 
 abbrev accepted : Answer → Bool
-accepted answer.Accepted = true
-accepted (answer.Refused r) = false
+accepted (Ok tt) = true
+accepted (Err r) = false
 
-accepted→≡ : (a : Answer) → T (accepted a) → a ≡ answer.Accepted
-accepted→≡ answer.Accepted t = refl
-accepted→≡ (answer.Refused r) t = absurd t
+accepted→≡ : (a : Answer) → T (accepted a) → a ≡ Ok tt
+accepted→≡ (Ok tt) t = refl
+accepted→≡ (Err r) t = absurd t
 
 quick_written : List ℕ → Decision
 quick_written s = quick_over (earlier_layouts none_looked_up right_good) (sheet_backgrounds s) (written_limit s) s
@@ -189,11 +187,11 @@ unfolding tests
 every_shortage_test = passed 10
 
 -- the worked sheet had a result before either wish, and with 0.1 on the right before it had one without wish 1
-pub worked_had_result : answer_for (with_one_and_written worked_sheet) 32 ≡ answer.Accepted
+pub worked_had_result : answer_for (with_one_and_written worked_sheet) 32 ≡ Ok tt
 unfolding tests
 worked_had_result = rw (one_and_written_quick worked_sheet) (accepted→≡ (answer_for (quick_one_and_written worked_sheet) 32) (passed 5))
 
-pub sided_had_result : answer_for (with_written (worked_with 1)) 32 ≡ answer.Accepted
+pub sided_had_result : answer_for (with_written (worked_with 1)) 32 ≡ Ok tt
 unfolding tests
 sided_had_result = rw (written_quick (worked_with 1)) (accepted→≡ (answer_for (quick_written (worked_with 1)) 32) (passed 6))
 

@@ -10,35 +10,31 @@ use native.Mathlib.Omega.{arith}
 use lib.Dec.{eqb, ltb}
 use lib.ListN.{take, drop}
 use lib.Seq.{drop-drop}
+use Rattle.std.specs.Prelude.{Option, Some, None, Result, Ok, Err}
 use Rattle.units.specs.Tests.{lowest, some}
 use Rattle.units.proofs.Lowest.{lowest_here, lowest_next}
+use Rattle.refusal.specs.declared.Refusal.{Refusal}
 use Rattle.refusal.specs.declared.Refusal.TheVariants as refusal
 use Rattle.record.specs.declared.Backgrounds.{Backgrounds}
-use Rattle.record.specs.Records.{records, record_at, byte, run_in}
+use Rattle.record.specs.declared.RunKind.TheVariants.{Acceleration}
+use Rattle.record.specs.Records.{records, record_at, byte, kind_byte, run_in}
 use Rattle.record.proofs.Shown.{shown}
-use Rattle.sheet.specs.declared.Examination.{Examination}
-use Rattle.sheet.specs.declared.Examination.TheVariants as examination
+use Rattle.sheet.specs.declared.Whole.{Whole}
 use Rattle.sheet.specs.Sheet.{Layouts, examined_by, layouts, any_acceleration, has_acceleration}
 use Rattle.window.specs.declared.ValidRun.{ValidRun}
 use Rattle.window.specs.Windows.{first_window}
 use Rattle.valid_runs.specs.declared.Condition.{Condition}
-use Rattle.valid_runs.specs.declared.Validity.TheVariants.{NotValid}
 use Rattle.valid_runs.specs.ValidRuns.{valid_of, candidate_of, with_valid, rest_from, rest_of, window_of}
 use Rattle.reference.specs.declared.Reference.{Reference}
 use Rattle.reference.specs.Reference.{pmr_of, reference_at}
-use Rattle.limit.specs.declared.Limit.{Limit}
-use Rattle.limit.specs.declared.Limit.TheVariants as limits
 use Rattle.gears.specs.Rules.{choice_of}
+use Rattle.session.specs.declared.Entry.{Entry}
 use Rattle.session.specs.declared.Track.{Track}
 use Rattle.session.specs.declared.State.{State}
 use Rattle.session.specs.declared.State.TheVariants.{NoRun}
 use Rattle.session.specs.declared.WithoutWindow.{WithoutWindow}
-use Rattle.session.specs.declared.WithoutWindow.TheVariants as without
-use Rattle.session.specs.Session.{Session, Entry, session_of, condition_of, shortage_in, by_window, state_of, has_no_window, lowest_no_window, without_window, with_remaining, remaining_from, remaining, gears_of, windows_of}
-use Rattle.decision.specs.declared.Selection.{Selection}
-use Rattle.decision.specs.declared.Decision.{Decision}
-use Rattle.decision.specs.declared.Decision.TheVariants.{Refused}
-use Rattle.decision.specs.Decision.{out_of_range, selected_in, decide_gears, unless_without, decide_whole, decide_limited, track_of, decide_by, decision_over, sheet_backgrounds, sheet_limit, decision_of, sheet_session, reference_in, choice_in, selection_in}
+use Rattle.session.specs.Session.{Session, session_of, condition_of, shortage_in, by_window, state_of, has_no_window, lowest_no_window, without_window, with_remaining, remaining_from, remaining, gears_of, windows_of}
+use Rattle.decision.specs.Decision.{Selection, Decision, out_of_range, selected_in, decide_gears, unless_without, decide_whole, decide_limited, track_of, decide_by, decision_over, sheet_backgrounds, sheet_limit, decision_of, sheet_session, reference_in, choice_in, selection_in}
 
 -- ---- the records
 
@@ -87,7 +83,7 @@ accelerates_in gear r = eqb (byte r 0) 2 && eqb (byte r 1) gear
 unfoldable pub rest_in : Condition → ℕ → List (List ℕ) → List ValidRun
 rest_in o n [] = []
 rest_in o n (r ∷ rs) =
-    with_valid (cond (eqb (byte r 0) o.kind && eqb (byte r 1) o.gear) (valid_of (run_in r) o.backgrounds n) NotValid) (rest_in o (suc n) rs)
+    with_valid (cond (eqb (byte r 0) (kind_byte o.kind) && eqb (byte r 1) o.gear) (valid_of (run_in r) o.backgrounds n) None) (rest_in o (suc n) rs)
 
 rest_from_is : (s : List ℕ) (o : Condition) (n count : ℕ) → rest_from s o n count ≡ rest_in o n (records_from s n count)
 unfolding rest_from candidate_of rest_in records_from
@@ -102,13 +98,13 @@ rest_is s o = rest_from_is s o 1 (records s - 2) ∙ ap (rest_in o 1) (runs_are 
 
 -- what becomes of a gear, given the run records
 unfoldable pub state_in : Track → List (List ℕ) → ℕ → State
-state_in track rs gear = cond (some_of (accelerates_in gear) rs) (by_window track gear (first_window (rest_in (condition_of track 2 gear) 1 rs))) NoRun
+state_in track rs gear = cond (some_of (accelerates_in gear) rs) (by_window track gear (first_window (rest_in (condition_of track Acceleration gear) 1 rs))) NoRun
 
 state_is : (t : Session) (gear : ℕ) → state_of t gear ≡ state_in t.track (runs_in t.sheet) gear
 unfolding state_of state_in has_acceleration accelerates_in window_of
 state_is t gear =
     let s = t.sheet in
-    let o = condition_of t.track 2 gear in
+    let o = condition_of t.track Acceleration gear in
     let has : has_acceleration s gear ≡ some_of (accelerates_in gear) (runs_in s) =
     some_is s (accelerates_in gear) (records s - 2) 1 ∙ ap (some_of (accelerates_in gear)) (runs_are s) in
     ap₂ (λ b rest. cond b (by_window t.track gear (first_window rest)) NoRun) has (rest_is s o)
@@ -151,8 +147,8 @@ unfoldable pub entries_decided : Session → Reference → ℕ → List Entry �
 entries_decided t r limit entries = decide_gears r limit t (map (λ (e : Entry). e.gear) entries) (map (λ (e : Entry). e.window) entries)
 
 -- the gear of row 7, given its number less one, 16 if there is none
-unfoldable pub without_in : Session → ℕ → WithoutWindow
-without_in t p = cond (ltb p 16) (without.Gear (p + 1) (shortage_in t 2 (p + 1))) without.NoGear
+unfoldable pub without_in : Session → ℕ → Option WithoutWindow
+without_in t p = cond (ltb p 16) (Some (record { gear = p + 1; shortage = shortage_in t Acceleration (p + 1) })) None
 
 -- row 7 by gear and those after it, given what becomes of each gear
 unfoldable pub states_decided : Session → Reference → ℕ → List State → Decision
@@ -165,34 +161,34 @@ states_of t = states_from t.track (runs_in t.sheet) 0 16
 -- what `decide_whole` gives
 unfoldable pub quick_whole : Session → ℕ → ℕ → Decision
 quick_whole t q limit =
-    cond (out_of_range q) (Refused refusal.PmrOutOfRange)
-    (cond (not (any_acceleration t.sheet)) (Refused refusal.NoRun)
+    cond (out_of_range q) (Err refusal.PmrOutOfRange)
+    (cond (not (any_acceleration t.sheet)) (Err refusal.NoRun)
     (states_decided t (reference_at q) limit (states_of t)))
 
 whole_is : (t : Session) (q limit : ℕ) → decide_whole t q limit ≡ quick_whole t q limit
 unfolding decide_whole without_window lowest_no_window gears_of windows_of remaining quick_whole states_decided states_of without_in entries_decided
 whole_is t q limit = rw (lowest_is t 16 0, remaining_is t 0 16)
 
-unfoldable pub quick_limited : Session → ℕ → Limit → Decision
-quick_limited t q (limits.Refused x) = Refused x
-quick_limited t q (limits.Found n) = quick_whole t q n
+unfoldable pub quick_limited : Session → ℕ → Result ℕ Refusal → Decision
+quick_limited t q (Err x) = Err x
+quick_limited t q (Ok n) = quick_whole t q n
 
-unfoldable pub quick_by : Backgrounds → Limit → List ℕ → Examination → Decision
-quick_by b l s (examination.Refused x) = Refused x
-quick_by b l s (examination.Whole v z) = quick_limited (session_of s (track_of b v)) (pmr_of v.power v.mass) l
+unfoldable pub quick_by : Backgrounds → Result ℕ Refusal → List ℕ → Result Whole Refusal → Decision
+quick_by b l s (Err x) = Err x
+quick_by b l s (Ok w) = quick_limited (session_of s (track_of b w.vehicle)) (pmr_of w.vehicle.power w.vehicle.mass) l
 
 -- what `decision_over` gives
-unfoldable pub quick_over : Layouts → Backgrounds → Limit → List ℕ → Decision
+unfoldable pub quick_over : Layouts → Backgrounds → Result ℕ Refusal → List ℕ → Decision
 quick_over y b l s = quick_by b l s (examined_by y s)
 
-pub quick_is : (y : Layouts) (b : Backgrounds) (l : Limit) (s : List ℕ) → decision_over y b l s ≡ quick_over y b l s
+pub quick_is : (y : Layouts) (b : Backgrounds) (l : Result ℕ Refusal) (s : List ℕ) → decision_over y b l s ≡ quick_over y b l s
 unfolding decision_over decide_by decide_limited quick_over quick_by quick_limited
 quick_is y b l s = by l (examined_by y s)
   where
-    by : (l : Limit) (e : Examination) → decide_by b l s e ≡ quick_by b l s e
-    by l (examination.Refused x) = refl
-    by (limits.Refused x) (examination.Whole v z) = refl
-    by (limits.Found n) (examination.Whole v z) = whole_is (session_of s (track_of b v)) (pmr_of v.power v.mass) n
+    by : (l : Result ℕ Refusal) (e : Result Whole Refusal) → decide_by b l s e ≡ quick_by b l s e
+    by l (Err x) = refl
+    by (Err x) (Ok w) = refl
+    by (Ok n) (Ok w) = whole_is (session_of s (track_of b w.vehicle)) (pmr_of w.vehicle.power w.vehicle.mass) n
 
 -- ---- of a sheet
 

@@ -2,26 +2,22 @@
 -- (wish 8), sessions whose limit is looked up (wish 1) and sessions in which a gear has no window (wish 5): for each, what the rules give and what
 -- they should give, as numbers.
 -- Levels are in tenths of dB(A), accelerations in hundredths of m/s², speeds in tenths of km/h; floats are written by their bit patterns.
-use Rattle.std.specs.Prelude.{◌≡◌, List, [], ◌∷◌, ◌++◌, map, ℕ, zero, suc, ◌+◌, ◌%◌, ◌/◌, replicate}
+use Rattle.std.specs.Prelude.{◌≡◌, List, [], ◌∷◌, ◌++◌, map, ℕ, zero, suc, ◌+◌, ◌%◌, ◌/◌, replicate, Option, Some, None, Result, Ok, Err}
 use Rattle.std.specs.Float.{binary32}
 use Rattle.std.specs.Float.Ieee.{of_bits}
 use Rattle.std.proofs.lemmas.List.Edits.{sets}
+use Rattle.units.specs.declared.Tenths.{Tenths}
 use Rattle.units.specs.Bytes.{number}
-use Rattle.refusal.specs.declared.Answer.{Answer}
-use Rattle.refusal.specs.declared.Answer.TheVariants as answer
-use Rattle.refusal.specs.Refusal.{number_of, place_of}
-use Rattle.level.specs.declared.Side.{Side}
-use Rattle.level.specs.declared.Side.TheVariants as side
+use Rattle.refusal.specs.declared.Shortage.{Shortage}
+use Rattle.refusal.specs.declared.Refusal.{Refusal}
+use Rattle.refusal.specs.Refusal.{Answer, number_of, place_of}
 use Rattle.level.specs.Level.{tenths_of, corrected_side}
 use Rattle.record.specs.Records.{byte}
 use Rattle.window.specs.declared.ValidRun.{ValidRun}
-use Rattle.window.specs.declared.Window.{Window}
-use Rattle.window.specs.declared.Window.TheVariants as window
+use Rattle.window.specs.declared.Four.{Four}
 use Rattle.window.specs.Windows.{first_window}
 use Rattle.reference.specs.declared.Reference.{Reference}
 use Rattle.reference.specs.Reference.{a_urban, a_ref}
-use Rattle.limit.specs.declared.Limit.{Limit}
-use Rattle.limit.specs.declared.Limit.TheVariants as limits
 use Rattle.gears.specs.declared.Gear.{Gear}
 use Rattle.gears.specs.declared.Choice.{Choice}
 use Rattle.gears.specs.declared.Choice.TheVariants as choice
@@ -57,9 +53,9 @@ pub data Example : Type 0 where
 
 -- ---- what the rules give, as numbers
 
-abbrev pub side_gives : Side → List ℕ
-side_gives (side.Corrected l) = l.0 ∷ []
-side_gives side.NotValid = []
+abbrev pub side_gives : Option Tenths → List ℕ
+side_gives (Some l) = l.0 ∷ []
+side_gives None = []
 
 -- runs n, n + 1, .. with these levels on both sides
 abbrev pub runs_from : ℕ → List ℕ → List ValidRun
@@ -67,9 +63,9 @@ runs_from n [] = []
 runs_from n (l ∷ levels) =
     record { left = record { 0 = l }; right = record { 0 = l }; start = 0; end = 0; engine = 0; number = n } ∷ runs_from (n + 1) levels
 
-abbrev pub window_gives : Window → List ℕ
-window_gives (window.Runs f) = numbers_of f
-window_gives (window.Nothing shortage) = []
+abbrev pub window_gives : Result Four Shortage → List ℕ
+window_gives (Ok f) = numbers_of f
+window_gives (Err shortage) = []
 
 abbrev pub gears_with : List ℕ → List Gear
 gears_with = map (λ x. record { number = 0; acceleration = record { 0 = x } })
@@ -78,23 +74,23 @@ gears_with = map (λ x. record { number = 0; acceleration = record { 0 = x } })
 abbrev pub referred : ℕ → ℕ → ℕ → Reference
 referred q u r = record { pmr = q; a_urban = record { 0 = u }; a_ref = record { 0 = r } }
 
-abbrev pub choice_gives : Choice → List ℕ
-choice_gives (choice.One rule p) = rule ∷ (p + 1) ∷ []
-choice_gives (choice.Pair rule p) = rule ∷ (p + 1) ∷ (p + 2) ∷ []
-choice_gives choice.Nothing = []
+abbrev pub choice_gives : Option Choice → List ℕ
+choice_gives (Some (choice.One rule p)) = rule ∷ (p + 1) ∷ []
+choice_gives (Some (choice.Pair rule p)) = rule ∷ (p + 1) ∷ (p + 2) ∷ []
+choice_gives None = []
 
 -- of a sheet, by the answer and the bytes of the result buffer
 abbrev pub evaluation_gives : List ℕ → Answer → List ℕ → List ℕ
-evaluation_gives s answer.Accepted b = (sheet_backgrounds s).left.0 ∷ (sheet_backgrounds s).right.0 ∷ number b 8 2 ∷ []
-evaluation_gives s (answer.Refused r) b = number_of r ∷ place_of r ∷ []
+evaluation_gives s (Ok tt) b = (sheet_backgrounds s).left.0 ∷ (sheet_backgrounds s).right.0 ∷ number b 8 2 ∷ []
+evaluation_gives s (Err r) b = number_of r ∷ place_of r ∷ []
 
-abbrev pub limit_gives : Limit → List ℕ
-limit_gives (limits.Found n) = n ∷ []
-limit_gives (limits.Refused r) = []
+abbrev pub limit_gives : Result ℕ Refusal → List ℕ
+limit_gives (Ok n) = n ∷ []
+limit_gives (Err r) = []
 
 abbrev pub limit_and_pass_gives : List ℕ → Answer → List ℕ → List ℕ
-limit_and_pass_gives s answer.Accepted b = limit_gives (sheet_limit s) ++ (byte b 5 ∷ [])
-limit_and_pass_gives s (answer.Refused r) b = number_of r ∷ place_of r ∷ []
+limit_and_pass_gives s (Ok tt) b = limit_gives (sheet_limit s) ++ (byte b 5 ∷ [])
+limit_and_pass_gives s (Err r) b = number_of r ∷ place_of r ∷ []
 
 abbrev pub gives : Example → List ℕ
 gives (tenths pattern n) = tenths_of (of_bits binary32 pattern) ∷ []

@@ -4,7 +4,7 @@
 
 ghost use Rattle.std.specs.Str.{IsAscii};
 
-use program::Ending;
+use program::Failure;
 use std::fs::{File, OpenOptions};
 use std::io;
 use std::io::{Read, Write};
@@ -21,12 +21,9 @@ fn run<R: Read, W: Write>(rt: &impl Print, input: &mut R, output: &mut W) -> io:
     let mut sheet = [0u8; program::SHEET_ROOM];
     let mut line = [0u8; program::LINE_ROOM];
     match program::run(input, output, &mut sheet, &mut line) {
-        Ending::Printed {
-            read: _,
-            written: _,
-        } => Ok(()),
-        Ending::NotRead { error: _ } => println!(rt; "NOT READ"),
-        Ending::NotWritten { read: _, error: _ } => println!(rt; "NOT WRITTEN"),
+        Ok(_) => Ok(()),
+        Err(Failure::NotRead { .. }) => println!(rt; "NOT READ"),
+        Err(Failure::NotWritten { .. }) => println!(rt; "NOT WRITTEN"),
     }
 }
 

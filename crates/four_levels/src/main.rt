@@ -2,7 +2,8 @@
 // pattern of each level in four, then the limit in two, low byte first.
 #![tactic(auto)]
 
-use motorcycle::Verdict;
+use motorcycle::{JudgedMean, LevelRefusal};
+use refusal::Numbered;
 use std::fs::File;
 use std::io;
 use std::io::Read;
@@ -15,41 +16,38 @@ fn print_line(rt: &impl Print, word: &str, m: u64, n: u64) -> io::Result<()> {
 }
 
 // The mean and 1 if it passes, 0 if not; or the number and the place of the refusal.
-fn print_verdict(rt: &impl Print, verdict: Verdict) -> io::Result<()> {
-    if let Verdict::Judged(mean, passes) = verdict {
-        return print_line(rt, "OK", mean.0 as u64, passes as u64);
+fn print_verdict(rt: &impl Print, verdict: Result<JudgedMean, LevelRefusal>) -> io::Result<()> {
+    match verdict {
+        Ok(judged) => print_line(rt, "OK", judged.mean.0 as u64, u64::from(judged.pass)),
+        Err(refusal) => print_line(
+            rt,
+            "REFUSED",
+            refusal.number() as u64,
+            refusal.place() as u64,
+        ),
     }
-    let number = motorcycle::verdict_number(verdict);
-    let place = motorcycle::verdict_place(verdict);
-    print_line(rt, "REFUSED", number as u64, place as u64)
 }
 
-// Prints the verdict on the next set; answers whether there was one.
-fn print_next(rt: &impl Print, file: &mut impl Read) -> io::Result<bool> {
-    let mut bytes = [0u8; SIZE];
-    if file.read_exact(&mut bytes).is_err() {
-        return Ok(false);
-    }
+// The verdict on the set in these bytes.
+fn verdict_in(bytes: &[u8; SIZE]) -> Result<JudgedMean, LevelRefusal> {
     let patterns = [
-        units::number32(&bytes, 0),
-        units::number32(&bytes, 4),
-        units::number32(&bytes, 8),
-        units::number32(&bytes, 12),
+        units::number32(bytes, 0),
+        units::number32(bytes, 4),
+        units::number32(bytes, 8),
+        units::number32(bytes, 12),
     ];
-    let limit = units::number16(&bytes, 16);
-    print_verdict(
-        rt,
-        motorcycle::judge(motorcycle::levels_of(&patterns), limit),
-    )?;
-    Ok(true)
+    let limit = units::number16(bytes, 16);
+    motorcycle::judge(motorcycle::levels_of(&patterns), limit)
 }
 
-// The turns are counted, since a proved loop ends and nothing says that a file does.
+// Prints the verdict on each set. The turns are counted, since a proved loop ends and nothing says that a file does.
 fn print_all(rt: &impl Print, file: &mut impl Read) -> io::Result<()> {
     for _ in 0..u32::MAX {
-        if !print_next(rt, file)? {
+        let mut bytes = [0u8; SIZE];
+        if file.read_exact(&mut bytes).is_err() {
             break;
         }
+        print_verdict(rt, verdict_in(&bytes))?;
     }
     Ok(())
 }

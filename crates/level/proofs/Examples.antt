@@ -6,9 +6,8 @@ use Prim.Native.Nat.{ℕ}
 use lib.Dec.{T, eqb}
 use lib.Ieee.{binary32, of_bits}
 use Rattle.units.specs.Rounding.{rounded}
-use Rattle.level.specs.declared.Found.{Found}
-use Rattle.level.specs.declared.Found.TheVariants.{Good, Broken}
-use Rattle.level.specs.declared.Side.TheVariants.{Corrected, NotValid}
+use Rattle.std.proofs.Common.{Option, Some, None}
+use Rattle.level.specs.declared.Reading.{Reading}
 use Rattle.level.specs.Reading.{in_range, reading_of}
 use Rattle.level.specs.Level.{tenths_of, corrections, correction_of, corrected_side}
 
@@ -41,35 +40,35 @@ unfolding correction_of corrections rounded
 ends_of_entries = tt
 
 -- over 40.0: d 10.9 takes 0.4 off, d 15.0 nothing, d 10.0 counts, d 9.9 and d 9.5 do not, nor does a level below its background
-d_10_9 : corrected_side 509 400 ≡ Corrected (record { 0 = 505 })
+d_10_9 : corrected_side 509 400 ≡ Some (record { 0 = 505 })
 unfolding corrected_side correction_of corrections rounded
 d_10_9 = refl
 
-d_15_0 : corrected_side 550 400 ≡ Corrected (record { 0 = 550 })
+d_15_0 : corrected_side 550 400 ≡ Some (record { 0 = 550 })
 unfolding corrected_side correction_of corrections rounded
 d_15_0 = refl
 
-d_10_0 : corrected_side 500 400 ≡ Corrected (record { 0 = 495 })
+d_10_0 : corrected_side 500 400 ≡ Some (record { 0 = 495 })
 unfolding corrected_side correction_of corrections rounded
 d_10_0 = refl
 
-d_9_9 : corrected_side 499 400 ≡ NotValid
+d_9_9 : corrected_side 499 400 ≡ None
 unfolding corrected_side
 d_9_9 = refl
 
-d_9_5 : corrected_side 495 400 ≡ NotValid
+d_9_5 : corrected_side 495 400 ≡ None
 unfolding corrected_side
 d_9_5 = refl
 
-below_background : corrected_side 300 400 ≡ NotValid
+below_background : corrected_side 300 400 ≡ None
 unfolding corrected_side
 below_background = refl
 
 -- ---- readings
 
-broken : Found → Bool
-broken (Good r) = false
-broken Broken = true
+broken : Option Reading → Bool
+broken (Some r) = false
+broken None = true
 
 -- broken: -0.0 under kind 0, kind 3, a NaN, both infinities, -72.25, the float just below 20.0, the one just above 140.0
 refused :

@@ -1,4 +1,4 @@
--- What the tests of a float against 20.0 and 140.0 say of `inRange`. The literals are written by their bit patterns: `of_bits` computes
+-- What the tests of a float against 20.0 and 140.0 say of `in_range`. The literals are written by their bit patterns: `of_bits` computes
 -- them to `fin false 5 (pos 2)` and `fin false 35 (pos 2)`. Assumes nothing.
 use mathlib.Core.Path.{◌≡◌, refl, sym, ◌∙◌}
 use mathlib.Core.Bool.{Bool, true, false, ◌&&◌, ◌||◌, false≢true}

@@ -8,72 +8,46 @@ use lib.Ieee.Bits.{nan_bits_is}
 use lib.Dec.{eqb}
 use borrow.Author.Tests.{eq-eqb, ne_eqb, eqb-true}
 use Rattle.units.proofs.Tests.{by_test}
+use Rattle.std.proofs.Common.{Option, Some, None}
+use Rattle.std.specs.Option.{option_map}
 use Rattle.level.specs.declared.Reading.{Reading}
 use Rattle.level.specs.declared.Reading.TheVariants.{Level, Overload, Absent}
-use Rattle.level.specs.declared.Found.{Found}
-use Rattle.level.specs.declared.Found.TheVariants.{Good, Broken}
-use Rattle.level.specs.declared.Pattern.TheVariants.{InRange, Outside}
 use Rattle.level.specs.Reading.{in_range, reading_of, level_of}
-
--- ---- what the answer for a pattern says of its float
-
-pub inside : (x y : Float) → InRange x ≡ level_of y → (x ≡ y) × (in_range y ≡ true)
-unfolding level_of
-inside x y e = by (in_range y) e
-  where
-    by : (b : Bool) → InRange x ≡ cond b (InRange y) Outside → (x ≡ y) × (b ≡ true)
-    by true h = (cc, refl)
-    by false h = let z : ◌≡◌ {A = ℕ} 0 1 = cc in absurd (omega arith)
-
-pub outside : (y : Float) → Outside ≡ level_of y → in_range y ≡ false
-unfolding level_of
-outside y e = by (in_range y) e
-  where
-    by : (b : Bool) → Outside ≡ cond b (InRange y) Outside → b ≡ false
-    by true h = let z : ◌≡◌ {A = ℕ} 0 1 = cc in absurd (omega arith)
-    by false h = refl
 
 -- ---- kind by kind
 
-either : (b : Bool) → cond b Broken Broken ≡ Broken
-either true = refl
-either false = refl
-
 module _ (kind pattern : ℕ) where
-  pub absent : kind ≡ 0 → pattern ≡ 0 → reading_of kind pattern ≡ Good Absent
+  pub absent : kind ≡ 0 → reading_of kind pattern ≡ cond (eqb pattern 0) (Some Absent) None
   unfolding reading_of
-  absent k p = simp (eq-eqb kind 0 k, eq-eqb pattern 0 p)
+  absent k = simp (eq-eqb kind 0 k)
 
-  pub absent_broken : kind ≡ 0 → (pattern ≡ 0 → ⊥) → reading_of kind pattern ≡ Broken
-  unfolding reading_of
-  absent_broken k p = simp (eq-eqb kind 0 k, ne_eqb pattern 0 p)
+  pub level : kind ≡ 1 → reading_of kind pattern ≡ option_map Level (level_of (of_bits binary32 pattern))
+  unfolding reading_of level_of
+  level k = simp (ne_eqb kind 0 (omega arith), eq-eqb kind 1 k) (within (in_range (of_bits binary32 pattern)))
+    where
+      within : (b : Bool) → cond b (Some (Level (of_bits binary32 pattern))) None ≡ option_map Level (cond b (Some (of_bits binary32 pattern)) None)
+      within true = refl
+      within false = refl
 
-  pub unknown_broken : 2 < kind → reading_of kind pattern ≡ Broken
-  unfolding reading_of
-  unknown_broken k = simp (ne_eqb kind 0 (omega arith), ne_eqb kind 1 (omega arith), ne_eqb kind 2 (omega arith))
+  pub overload : kind ≡ 2 → reading_of kind pattern ≡ option_map Overload (level_of (of_bits binary32 pattern))
+  unfolding reading_of level_of
+  overload k = simp (ne_eqb kind 0 (omega arith), ne_eqb kind 1 (omega arith), eq-eqb kind 2 k) (within (in_range (of_bits binary32 pattern)))
+    where
+      within : (b : Bool) → cond b (Some (Overload (of_bits binary32 pattern))) None ≡ option_map Overload (cond b (Some (of_bits binary32 pattern)) None)
+      within true = refl
+      within false = refl
 
-  pub level : (x : Float) → kind ≡ 1 → InRange x ≡ level_of (of_bits binary32 pattern) → reading_of kind pattern ≡ Good (Level x)
+  pub unknown : 2 < kind → reading_of kind pattern ≡ None
   unfolding reading_of
-  level x k e = let i = inside x (of_bits binary32 pattern) e in simp (ne_eqb kind 0 (omega arith), eq-eqb kind 1 k, i.1, i.0)
-
-  pub overload : (x : Float) → kind ≡ 2 → InRange x ≡ level_of (of_bits binary32 pattern) → reading_of kind pattern ≡ Good (Overload x)
-  unfolding reading_of
-  overload x k e =
-      let i = inside x (of_bits binary32 pattern) e in
-      simp (ne_eqb kind 0 (omega arith), ne_eqb kind 1 (omega arith), eq-eqb kind 2 k, i.1, i.0)
-
-  pub level_broken : (kind ≡ 0 → ⊥) → Outside ≡ level_of (of_bits binary32 pattern) → reading_of kind pattern ≡ Broken
-  unfolding reading_of
-  level_broken k e =
-      simp (ne_eqb kind 0 k, outside (of_bits binary32 pattern) e, either)
+  unknown k = simp (ne_eqb kind 0 (omega arith), ne_eqb kind 1 (omega arith), ne_eqb kind 2 (omega arith))
 
 -- ---- what a reading can be, with what holds of its kind and its pattern
 
-pub data View (kind pattern : ℕ) : Found → Type 0 where
-  is_absent : kind ≡ 0 → pattern ≡ 0 → View kind pattern (Good Absent)
-  is_level : kind ≡ 1 → in_range (of_bits binary32 pattern) ≡ true → View kind pattern (Good (Level (of_bits binary32 pattern)))
-  is_overload : kind ≡ 2 → in_range (of_bits binary32 pattern) ≡ true → View kind pattern (Good (Overload (of_bits binary32 pattern)))
-  is_broken : View kind pattern Broken
+pub data View (kind pattern : ℕ) : Option Reading → Type 0 where
+  is_absent : kind ≡ 0 → pattern ≡ 0 → View kind pattern (Some Absent)
+  is_level : kind ≡ 1 → in_range (of_bits binary32 pattern) ≡ true → View kind pattern (Some (Level (of_bits binary32 pattern)))
+  is_overload : kind ≡ 2 → in_range (of_bits binary32 pattern) ≡ true → View kind pattern (Some (Overload (of_bits binary32 pattern)))
+  is_broken : View kind pattern None
 
 pub view : (kind pattern : ℕ) → View kind pattern (reading_of kind pattern)
 unfolding reading_of
@@ -87,7 +61,7 @@ view kind pattern =
     (λ l. is_broken)))
 
 -- the pattern of a good reading is not a NaN's
-pub no_nan : (kind pattern : ℕ) (r : Reading) → reading_of kind pattern ≡ Good r → nan_bits binary32 pattern ≡ false
+pub no_nan : (kind pattern : ℕ) (r : Reading) → reading_of kind pattern ≡ Some r → nan_bits binary32 pattern ≡ false
 unfolding in_range is_nan nan_bits
 no_nan kind pattern r e = by (reading_of kind pattern) (view kind pattern) e
   where
@@ -96,18 +70,18 @@ no_nan kind pattern r e = by (reading_of kind pattern) (view kind pattern) e
     number (inf s) i = refl
     number (fin s m d) i = refl
 
-    by : (f : Found) → View kind pattern f → f ≡ Good r → nan_bits binary32 pattern ≡ false
-    by (Good Absent) (is_absent k z) s = rw z
-    by (Good (Level _)) (is_level k i) s = nan_bits_is binary32 pattern ∙ number (of_bits binary32 pattern) i
-    by (Good (Overload _)) (is_overload k i) s = nan_bits_is binary32 pattern ∙ number (of_bits binary32 pattern) i
-    by Broken is_broken s = absurd (let z : ◌≡◌ {A = ℕ} 0 1 = cc in omega arith)
+    by : (f : Option Reading) → View kind pattern f → f ≡ Some r → nan_bits binary32 pattern ≡ false
+    by (Some Absent) (is_absent k z) s = rw z
+    by (Some (Level _)) (is_level k i) s = nan_bits_is binary32 pattern ∙ number (of_bits binary32 pattern) i
+    by (Some (Overload _)) (is_overload k i) s = nan_bits_is binary32 pattern ∙ number (of_bits binary32 pattern) i
+    by None is_broken s = absurd (let z : ◌≡◌ {A = ℕ} 0 1 = cc in omega arith)
 
 -- and a reading that is not absent has a level in range
-pub good_in_range : (kind pattern : ℕ) (r : Reading) → reading_of kind pattern ≡ Good r → (kind ≡ 0 → ⊥) → in_range (of_bits binary32 pattern) ≡ true
+pub good_in_range : (kind pattern : ℕ) (r : Reading) → reading_of kind pattern ≡ Some r → (kind ≡ 0 → ⊥) → in_range (of_bits binary32 pattern) ≡ true
 good_in_range kind pattern r e n = by (reading_of kind pattern) (view kind pattern) e
   where
-    by : (f : Found) → View kind pattern f → f ≡ Good r → in_range (of_bits binary32 pattern) ≡ true
-    by (Good Absent) (is_absent k z) s = absurd (n k)
-    by (Good (Level _)) (is_level k i) s = i
-    by (Good (Overload _)) (is_overload k i) s = i
-    by Broken is_broken s = absurd (let z : ◌≡◌ {A = ℕ} 0 1 = cc in omega arith)
+    by : (f : Option Reading) → View kind pattern f → f ≡ Some r → in_range (of_bits binary32 pattern) ≡ true
+    by (Some Absent) (is_absent k z) s = absurd (n k)
+    by (Some (Level _)) (is_level k i) s = i
+    by (Some (Overload _)) (is_overload k i) s = i
+    by None is_broken s = absurd (let z : ◌≡◌ {A = ℕ} 0 1 = cc in omega arith)

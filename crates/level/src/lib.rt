@@ -20,84 +20,50 @@ pub enum Reading {
     Absent,
 }
 
-// A reading as it stands in a record, or a layout that is broken.
-#[derive(Clone, Copy)]
-pub enum Found {
-    Good(Reading),
-    Broken,
-}
-
-// The float of a bit pattern, if it is a level in range.
-#[derive(Clone, Copy)]
-enum Pattern {
-    InRange(f32),
-    Outside,
-}
-
 // Whether a float is a level in range: finite, and from 20.0 to 140.0.
+#[tactic(auto, using(crate::proofs::Range::low_out, crate::proofs::Range::high_decides))]
 pub fn in_range(x: f32) -> bool
     ensures { result ≡ in_range x }
 {
-    if x >= 20.0 { x <= 140.0 } else { false }
+    x >= 20.0 && x <= 140.0
 }
 
-// No float is made from the pattern of a NaN.
-fn level_of(pattern: u32) -> Pattern
+// The float of a bit pattern, if it is a level in range. No float is made from the pattern of a NaN.
+#[tactic(auto, using(crate::proofs::Range::nan_out, crate::proofs::Range::no_nan), unfolding(crate::specs::Reading::level_of))]
+fn level_of(pattern: u32) -> Option<f32>
     ensures { result ≡ level_of (of_bits binary32 pattern) }
 {
     if pattern % 0x8000_0000 > 0x7f80_0000 {
-        return Pattern::Outside;
+        return None;
     }
     let x = f32::from_bits(pattern);
-    if in_range(x) {
-        Pattern::InRange(x)
-    } else {
-        Pattern::Outside
-    }
+    if in_range(x) { Some(x) } else { None }
 }
 
-// The reading of a kind byte and the four bytes of `s` from `at`.
-pub fn reading_at(kind: u8, s: &[u8], at: usize) -> Found
+// The reading of a kind byte and the four bytes of `s` from `at`, if they are one.
+#[tactic(auto, using(crate::proofs::Readings::absent, crate::proofs::Readings::level, crate::proofs::Readings::overload, crate::proofs::Readings::unknown))]
+pub fn reading_at(kind: u8, s: &[u8], at: usize) -> Option<Reading>
     requires { at + 4 ≤ length s.now }
     ensures { result ≡ reading_of kind (number s.now at 4) }
 {
     let pattern = units::number32(s, at);
-    if kind == 0 {
-        if pattern == 0 {
-            return Found::Good(Reading::Absent);
-        }
-        return Found::Broken;
-    }
-    if kind > 2 {
-        return Found::Broken;
-    }
-    match level_of(pattern) {
-        Pattern::InRange(x) => {
-            if kind == 1 {
-                Found::Good(Reading::Level(x))
-            } else {
-                Found::Good(Reading::Overload(x))
-            }
-        }
-        Pattern::Outside => Found::Broken,
+    match kind {
+        0 if pattern == 0 => Some(Reading::Absent),
+        1 => level_of(pattern).map(Reading::Level),
+        2 => level_of(pattern).map(Reading::Overload),
+        _ => None,
     }
 }
 
 // A level's exact value, rounded to a tenth. A float of 20 or more has no digit below 2^-19, so 2^19 times it is a whole number,
 // which an `f64` holds.
+#[tactic(auto, using(crate::proofs::Scaled::scaled, crate::proofs::Rising::tenths_range))]
 pub fn tenths(x: f32) -> Tenths
     requires { T (in_range x) }
     ensures { result.0 ≡ tenths_of x }
 {
     let n = (x as f64 * 524288.0) as u32;
     Tenths(units::round(10 * n, 524288) as u16)
-}
-
-// A side of a run: its corrected level, or nothing that counts.
-#[derive(Clone, Copy)]
-pub enum Side {
-    Corrected(Tenths),
-    NotValid,
 }
 
 // What is taken off for a whole difference of 10, 11, .. 15 dB.
@@ -112,6 +78,7 @@ const CORRECTIONS: [Tenths; 6] = [
 
 // What is taken off for a difference d: the table's entry at the nearest whole decibel, and nothing past its end, from 15.5 on. That is
 // asked first, since a run so far above the background needs no rounding.
+#[tactic(auto, using(crate::proofs::Corrections::nothing_off), unfolding(crate::specs::Level::correction_of, crate::specs::Level::corrections, units::specs::Rounding::rounded))]
 fn correction(d: Tenths) -> Tenths
     requires { 100 ≤ d.0 }
     ensures { result.0 ≡ correction_of d.0 }
@@ -123,33 +90,25 @@ fn correction(d: Tenths) -> Tenths
     CORRECTIONS[at]
 }
 
-// A rounded level against its background.
-pub fn corrected(level: Tenths, background: Tenths) -> Side
+// A rounded level against its background: the corrected level, if the side counts.
+#[tactic(auto, using(crate::proofs::Sides::side_counts, crate::proofs::Sides::too_near, crate::proofs::Corrections::correction_small))]
+pub fn corrected(level: Tenths, background: Tenths) -> Option<Tenths>
     ensures { result ≡ corrected_side level.0 background.0 }
 {
-    if level.0 < background.0 {
-        return Side::NotValid;
-    }
-    let d = Tenths(level.0 - background.0);
+    let d = Tenths(level.0.checked_sub(background.0)?);
     if d.0 < 100 {
-        return Side::NotValid;
+        return None;
     }
-    Side::Corrected(Tenths(level.0 - correction(d).0))
+    Some(Tenths(level.0 - correction(d).0))
 }
 
-// The validity rule of one side.
-pub fn side_of(reading: Reading, background: Tenths) -> Side
+// The validity rule of one side: its corrected level, if it counts.
+#[tactic(auto, unfolding(crate::specs::Level::side_of))]
+pub fn side_of(reading: Reading, background: Tenths) -> Option<Tenths>
     ensures { result ≡ side_of reading background.0 }
 {
     match reading {
-        Reading::Level(x) => {
-            if in_range(x) {
-                corrected(tenths(x), background)
-            } else {
-                Side::NotValid
-            }
-        }
-        Reading::Overload(_) => Side::NotValid,
-        Reading::Absent => Side::NotValid,
+        Reading::Level(x) if in_range(x) => corrected(tenths(x), background),
+        Reading::Level(_) | Reading::Overload(_) | Reading::Absent => None,
     }
 }

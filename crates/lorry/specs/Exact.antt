@@ -1,10 +1,9 @@
 -- Every mass that is given is the exact value of the rules, as a fraction of whole kilograms. Fractions are compared crosswise, so that no division
 -- drops a remainder, and the load is compared as a sum, so that no difference below 0 is cut off.
-use Rattle.std.specs.Prelude.{◌≡◌, ℕ, ◌+◌, ◌*◌, ◌≤◌, ◌<◌, max, min}
+use Rattle.std.specs.Prelude.{◌≡◌, ℕ, ◌+◌, ◌*◌, ◌≤◌, ◌<◌, max, min, Ok}
 use Rattle.lorry.specs.declared.TwoAxles.{TwoAxles}
 use Rattle.lorry.specs.declared.KgTenThousandths.{KgTenThousandths}
 use Rattle.lorry.specs.declared.Masses.{Masses}
-use Rattle.lorry.specs.declared.Loading.TheVariants.{Reckoned}
 use Rattle.lorry.specs.TestMass.{two_axles_of, more_axles_of}
 
 -- a given mass is num / den kg
@@ -46,7 +45,7 @@ pub record TwoAxlesExact (x : TwoAxles) (m : Masses) : Type 0 where
   pub largest : m.mass.0 ≡ max (10000 * (x.front + x.rear + 75)) (min (50000 * x.power) (7500 * x.rear_max + 10000 * (75 + x.front)))
 
 abbrev pub TwoAxlesAreExact : Type 0
-TwoAxlesAreExact = (x : TwoAxles) (m : Masses) → two_axles_of x ≡ Reckoned m → TwoAxlesExact x m × LoadAndBand m (x.front + x.rear)
+TwoAxlesAreExact = (x : TwoAxles) (m : Masses) → two_axles_of x ≡ Ok m → TwoAxlesExact x m × LoadAndBand m (x.front + x.rear)
 
 -- ---- more axles: the masses of the stand-in, the lorry's own unladen mass in kg, and its masses
 
@@ -58,4 +57,4 @@ pub record MoreAxlesExact (stand-in : Masses) (own : ℕ) (m : Masses) : Type 0 
   pub larger : m.mass.0 ≡ max stand-in.mass.0 (10000 * (own + 75))
 
 abbrev pub MoreAxlesAreExact : Type 0
-MoreAxlesAreExact = (x : TwoAxles) (own : ℕ) (s m : Masses) → two_axles_of x ≡ Reckoned s → more_axles_of x own ≡ Reckoned m → MoreAxlesExact s own m × LoadAndBand m own
+MoreAxlesAreExact = (x : TwoAxles) (own : ℕ) (s m : Masses) → two_axles_of x ≡ Ok s → more_axles_of x own ≡ Ok m → MoreAxlesExact s own m × LoadAndBand m own

@@ -1,12 +1,12 @@
 -- The test mass of a lorry of category N2 or N3 (document 02, wish 13; document 004, annex 3, 2.2.1 and 2.2.7.4), in the order in which it is
 -- reckoned. Nothing is rounded and nothing is divided: a mass is in hundredths of a kg, in which 75% of whole kilograms is whole, and what is given is
 -- in ten-thousandths, in which 95% and 105% of hundredths are.
-use Rattle.std.specs.Prelude.{Bool, cond, ℕ, ◌+◌, ◌-◌, ◌*◌, leb, ltb}
+use Rattle.std.specs.Prelude.{Bool, cond, ℕ, ◌+◌, ◌-◌, ◌*◌, leb, ltb, Result, Ok, Err}
+use Rattle.refusal.specs.Refusal.{number_in}
 use Rattle.lorry.specs.declared.TwoAxles.{TwoAxles}
 use Rattle.lorry.specs.declared.KgTenThousandths.{KgTenThousandths}
 use Rattle.lorry.specs.declared.Masses.{Masses}
-use Rattle.lorry.specs.declared.Loading.{Loading}
-use Rattle.lorry.specs.declared.Loading.TheVariants.{Reckoned, RearOverloaded}
+use Rattle.lorry.specs.declared.RearOverloaded.{RearOverloaded}
 
 -- n kilograms, in hundredths
 abbrev pub kg : ℕ → ℕ
@@ -70,10 +70,17 @@ abbrev pub masses_of : ℕ → ℕ → Masses
 masses_of mass load =
     record { mass = percent 100 mass; load = percent 100 load; lowest = percent 95 mass; highest = percent 105 mass }
 
+-- How a lorry is loaded for the test: the masses, or the refusal 21.
+abbrev pub Loading : Type 0
+Loading = Result Masses RearOverloaded
+
+abbrev pub rear_overloaded : Loading
+rear_overloaded = Err (record {})
+
 -- 21 comes before all else; for a lorry of more axles it is asked of the stand-in. The load is the test mass less the driver and the unladen mass,
 -- which for a lorry of more axles is its own.
 unfoldable pub loading_of : TwoAxles → ℕ → ℕ → Loading
-loading_of x mass unladen = cond (overloaded x) RearOverloaded (Reckoned (masses_of mass (extra mass unladen)))
+loading_of x mass unladen = cond (overloaded x) rear_overloaded (Ok (masses_of mass (extra mass unladen)))
 
 unfoldable pub two_axles_of : TwoAxles → Loading
 two_axles_of x = loading_of x (two_axles_mass x) (unladen_of x)
@@ -82,10 +89,14 @@ unfoldable pub more_axles_of : TwoAxles → ℕ → Loading
 more_axles_of x own = loading_of x (more_axles_mass x own) (kg own)
 
 -- the number and the place of the refusal: 0 and 0 where masses are given
+abbrev pub number_of : RearOverloaded → ℕ
+number_of refusal = 21
+
+abbrev pub place_of : RearOverloaded → ℕ
+place_of refusal = 0
+
 abbrev pub loading_number : Loading → ℕ
-loading_number (Reckoned masses) = 0
-loading_number RearOverloaded = 21
+loading_number loading = number_in number_of loading
 
 abbrev pub loading_place : Loading → ℕ
-loading_place (Reckoned masses) = 0
-loading_place RearOverloaded = 0
+loading_place loading = number_in place_of loading

@@ -2,11 +2,13 @@
 // lorry to it, and the band about it. Nothing is rounded.
 #![tactic(auto)]
 
-ghost use Rattle.std.specs.Prelude.{◌≡◌, ◌+◌, ◌≤◌};
-ghost use Rattle.lorry.specs.TestMass.{kg, driver, target_of, unladen_of, permitted_of, overloaded, is_negative, extra, two_axles_mass, more_axles_mass, masses_of, two_axles_of, more_axles_of, loading_number, loading_place};
+ghost use Rattle.std.specs.Prelude.{◌≡◌, ◌+◌, ◌≤◌, false};
+ghost use Rattle.lorry.specs.TestMass.{kg, driver, target_of, unladen_of, permitted_of, overloaded, is_negative, extra, two_axles_mass, more_axles_mass, masses_of, loading_of, two_axles_of, more_axles_of, number_of, place_of};
+
+use refusal::Numbered;
 
 // A lorry of two axles, or the stand-in of one of more.
-#[derive(Clone, Copy)]
+#[derive(Clone, Copy, Debug, PartialEq, Eq)]
 pub struct TwoAxles {
     // tenths of kW
     pub power: u16,
@@ -19,15 +21,15 @@ pub struct TwoAxles {
 
 // A mass while it is reckoned, in hundredths of a kg, in which 75% of whole kilograms is whole. The largest, the target of 6,553.5 kW, is
 // 32,767,500.
-#[derive(Clone, Copy)]
+#[derive(Clone, Copy, Debug, PartialEq, Eq, PartialOrd, Ord)]
 pub struct KgHundredths(pub u32);
 
 // A mass that is given, in ten-thousandths of a kg, in which 95% and 105% of hundredths are whole.
-#[derive(Clone, Copy)]
+#[derive(Clone, Copy, Debug, PartialEq, Eq)]
 pub struct KgTenThousandths(pub u64);
 
 // What is given: the test mass, the load, and the two ends of the band, 95% and 105% of the test mass.
-#[derive(Clone, Copy)]
+#[derive(Clone, Copy, Debug, PartialEq, Eq)]
 pub struct Masses {
     pub mass: KgTenThousandths,
     pub load: KgTenThousandths,
@@ -35,12 +37,24 @@ pub struct Masses {
     pub highest: KgTenThousandths,
 }
 
-// How a lorry is loaded for the test.
-#[derive(Clone, Copy)]
-pub enum Loading {
-    Reckoned(Masses),
-    // 21: unladen, the rear axle carries more than 75% of its maximum
-    RearOverloaded,
+// 21: unladen, the rear axle carries more than 75% of its maximum.
+#[derive(Clone, Copy, Debug, PartialEq, Eq)]
+pub struct RearOverloaded;
+
+impl Numbered for RearOverloaded {
+    ghost number = { number_of };
+
+    ghost place = { place_of };
+
+    // 21
+    fn number(self) -> u8 {
+        21
+    }
+
+    // It names no place.
+    fn place(self) -> usize {
+        0
+    }
 }
 
 // 75 kg
@@ -78,7 +92,7 @@ fn permitted_of(lorry: TwoAxles) -> KgHundredths
 fn overloaded(lorry: TwoAxles) -> bool
     ensures { result ≡ overloaded lorry }
 {
-    permitted_of(lorry).0 < kg(lorry.rear).0
+    permitted_of(lorry) < kg(lorry.rear)
 }
 
 // Whether the extra load that brings a lorry to a mass would be negative. The sum is made at 64 bits, since a number of 32 and the driver may not fit
@@ -98,6 +112,7 @@ fn extra(aim: KgHundredths, unladen: KgHundredths) -> KgHundredths
 }
 
 // The test mass of a lorry of two axles. Whether its rear axle is overloaded has been asked before.
+#[tactic(auto, unfolding(crate::specs::TestMass::two_axles_mass))]
 fn two_axles_mass(lorry: TwoAxles) -> KgHundredths
     ensures { result.0 ≡ two_axles_mass lorry }
 {
@@ -114,6 +129,7 @@ fn two_axles_mass(lorry: TwoAxles) -> KgHundredths
 }
 
 // The test mass of a lorry of more axles: that of its stand-in, unless its own unladen mass with the driver is more.
+#[tactic(auto, unfolding(crate::specs::TestMass::more_axles_mass))]
 fn more_axles_mass(stand_in: TwoAxles, own: u16) -> KgHundredths
     ensures { result.0 ≡ more_axles_mass stand_in own }
 {
@@ -137,48 +153,34 @@ fn masses_of(mass: KgHundredths, load: KgHundredths) -> Masses
     }
 }
 
-// The test mass of a lorry of two axles, from any four numbers.
-pub fn two_axles(lorry: TwoAxles) -> Loading
-    ensures { result ≡ two_axles_of lorry }
+// What is given of a test mass and the unladen mass that it is made of, or that the rear axle is overloaded, which is asked first.
+#[tactic(auto, unfolding(crate::specs::TestMass::loading_of))]
+fn loading_of(
+    lorry: TwoAxles,
+    mass: KgHundredths,
+    unladen: KgHundredths,
+) -> Result<Masses, RearOverloaded>
+    requires { overloaded lorry ≡ false → driver + unladen.0 ≤ mass.0 }
+    ensures { result ≡ loading_of lorry mass.0 unladen.0 }
 {
     if overloaded(lorry) {
-        return Loading::RearOverloaded;
+        return Err(RearOverloaded);
     }
-    let mass = two_axles_mass(lorry);
-    let masses = masses_of(mass, extra(mass, unladen_of(lorry)));
-    Loading::Reckoned(masses)
+    Ok(masses_of(mass, extra(mass, unladen)))
+}
+
+// The test mass of a lorry of two axles, from any four numbers.
+#[tactic(auto, using(crate::proofs::Cases::two_axles_largest, crate::proofs::Refused::fits), unfolding(crate::specs::TestMass::two_axles_of))]
+pub fn two_axles(lorry: TwoAxles) -> Result<Masses, RearOverloaded>
+    ensures { result ≡ two_axles_of lorry }
+{
+    loading_of(lorry, two_axles_mass(lorry), unladen_of(lorry))
 }
 
 // The test mass of a lorry of more axles, from its stand-in and its own unladen mass in kg, any five numbers.
-pub fn more_axles(stand_in: TwoAxles, own: u16) -> Loading
+#[tactic(auto, using(crate::proofs::Cases::more_axles_larger), unfolding(crate::specs::TestMass::more_axles_of))]
+pub fn more_axles(stand_in: TwoAxles, own: u16) -> Result<Masses, RearOverloaded>
     ensures { result ≡ more_axles_of stand_in own }
 {
-    if overloaded(stand_in) {
-        return Loading::RearOverloaded;
-    }
-    let mass = more_axles_mass(stand_in, own);
-    let masses = masses_of(mass, extra(mass, kg(own)));
-    Loading::Reckoned(masses)
-}
-
-impl Loading {
-    // The number of the refusal; 0 if masses are given.
-    pub fn number(self) -> u8
-        ensures { result ≡ loading_number self }
-    {
-        match self {
-            Loading::Reckoned(_) => 0,
-            Loading::RearOverloaded => 21,
-        }
-    }
-
-    // Its place, which is 0 for either.
-    pub fn place(self) -> usize
-        ensures { result ≡ loading_place self }
-    {
-        match self {
-            Loading::Reckoned(_) => 0,
-            Loading::RearOverloaded => 0,
-        }
-    }
+    loading_of(stand_in, more_axles_mass(stand_in, own), kg(own))
 }

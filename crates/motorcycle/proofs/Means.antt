@@ -6,6 +6,7 @@ use native.Mathlib.Nat.{le_trans}
 use native.Mathlib.Omega.{arith}
 use lib.Dec.{T}
 use lib.Ieee.{Float, lt}
+use Rattle.std.specs.Prelude.{Ok}
 use borrow.Author.Tests.{leb-true, le-leb}
 use Rattle.units.specs.Rounding.{rounded}
 use Rattle.units.specs.Tests.{NoneOf}
@@ -14,7 +15,6 @@ use Rattle.level.specs.Reading.{in_range}
 use Rattle.level.specs.Level.{tenths_of}
 use Rattle.level.proofs.Rising.{tenths_range, tenths_rising}
 use Rattle.motorcycle.specs.declared.Levels.{Levels}
-use Rattle.motorcycle.specs.declared.Verdict.TheVariants.{Judged}
 use Rattle.motorcycle.specs.Verdict.{level_at, outside, whole_of, reduced_of, quarters_of}
 use Rattle.motorcycle.specs.Means.{MeansWithinEnds, Louder, MeansRise}
 use Rattle.motorcycle.proofs.Causes.{only_on_its_cause}
@@ -78,14 +78,14 @@ module _ (x y : Levels) (p : NoneOf (outside x) 4 1) (q : NoneOf (outside y) 4 1
 -- ---- what is judged
 
 pub judged_range : MeansWithinEnds
-judged_range x limit m p e =
-    let c = only_on_its_cause x limit (Judged m p) e in
+judged_range x limit m e =
+    let c = only_on_its_cause x limit (Ok m) e in
     let r = quarters_range x c.0 in
     (omega (arith, r.0, c.2), omega (arith, r.1, c.2))
 
 pub judged_rising : MeansRise
-judged_rising x y limit m n p q e f louder =
-    let c = only_on_its_cause x limit (Judged m p) e in
-    let d = only_on_its_cause y limit (Judged n q) f in
+judged_rising x y limit m n e f louder =
+    let c = only_on_its_cause x limit (Ok m) e in
+    let d = only_on_its_cause y limit (Ok n) f in
     let rise = quarters_rising x y c.0 d.0 louder in
     (rw (c.2, d.2) rise, λ pass. c.3 ∙ le-leb (quarters_of x) (4 * limit) (le_trans rise (leb-true (quarters_of y) (4 * limit) (sym d.3 ∙ pass))))

@@ -1,14 +1,16 @@
 -- The verdict on the four levels of a motorcycle (document 02, wish 14; document 003, annex 3, 1.5), in the order in which it is reached. The range
 -- and the tenths of a level are those of a sheet, and the rounding is the one of every rule.
-use Rattle.std.specs.Prelude.{Bool, cond, not, ◌||◌, [], ◌∷◌, ℕ, ◌+◌, ◌*◌, ◌-◌, leb, ltb, Float, get_or}
+use Rattle.std.specs.Prelude.{Bool, cond, not, ◌||◌, [], ◌∷◌, ℕ, ◌+◌, ◌*◌, ◌-◌, leb, ltb, Float, get_or, Result, Ok, Err}
 use Rattle.std.specs.Float.{nan}
+use Rattle.refusal.specs.Refusal.{number_in}
 use Rattle.units.specs.Rounding.{rounded}
 use Rattle.units.specs.Tests.{lowest}
 use Rattle.level.specs.Reading.{in_range}
 use Rattle.level.specs.Level.{tenths_of}
 use Rattle.motorcycle.specs.declared.Levels.{Levels}
-use Rattle.motorcycle.specs.declared.Verdict.{Verdict}
-use Rattle.motorcycle.specs.declared.Verdict.TheVariants.{Judged, LevelOutOfRange, SideFarApart}
+use Rattle.motorcycle.specs.declared.JudgedMean.{JudgedMean}
+use Rattle.motorcycle.specs.declared.LevelRefusal.{LevelRefusal}
+use Rattle.motorcycle.specs.declared.LevelRefusal.TheVariants.{LevelOutOfRange, SideFarApart}
 
 -- level n, for n from 1 to 4 (no rule asks for another; a NaN stands there)
 abbrev pub level_at : Levels → ℕ → Float
@@ -52,22 +54,30 @@ reduced_of x = whole_of x - 1
 unfoldable pub quarters_of : Levels → ℕ
 quarters_of x = reduced_of x.first + reduced_of x.second + reduced_of x.third + reduced_of x.fourth
 
+-- what four levels and a limit give
+abbrev pub Verdict : Type 0
+Verdict = Result JudgedMean LevelRefusal
+
 -- 22 comes before 23: all four levels are asked for their range before any side is compared. Otherwise the levels are judged, and the mean
 -- passes if it is not above the limit, which is in whole dB.
 unfoldable pub verdict_of : Levels → ℕ → Verdict
 verdict_of x limit =
-    cond (leb (first_outside x) 4) (LevelOutOfRange (first_outside x))
-    (cond (leb (first_far_apart x) 2) (SideFarApart (first_far_apart x))
-    (Judged (record { 0 = quarters_of x }) (leb (quarters_of x) (4 * limit))))
+    cond (leb (first_outside x) 4) (Err (LevelOutOfRange (first_outside x)))
+    (cond (leb (first_far_apart x) 2) (Err (SideFarApart (first_far_apart x)))
+    (Ok (record { mean = record { 0 = quarters_of x }; pass = leb (quarters_of x) (4 * limit) })))
 
 -- ---- the number and the place of a refusal: 0 and 0 for levels that are judged
 
+abbrev pub number_of : LevelRefusal → ℕ
+number_of (LevelOutOfRange n) = 22
+number_of (SideFarApart side) = 23
+
+abbrev pub place_of : LevelRefusal → ℕ
+place_of (LevelOutOfRange n) = n
+place_of (SideFarApart side) = side
+
 abbrev pub verdict_number : Verdict → ℕ
-verdict_number (Judged mean passes) = 0
-verdict_number (LevelOutOfRange n) = 22
-verdict_number (SideFarApart side) = 23
+verdict_number v = number_in number_of v
 
 abbrev pub verdict_place : Verdict → ℕ
-verdict_place (Judged mean passes) = 0
-verdict_place (LevelOutOfRange n) = n
-verdict_place (SideFarApart side) = side
+verdict_place v = number_in place_of v

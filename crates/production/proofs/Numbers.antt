@@ -4,13 +4,13 @@ use mathlib.Core.List.{List, []}
 use Prim.Native.Nat.{ℕ, zero, suc}
 use native.Mathlib.Omega.{arith}
 use lib.ListN.{length}
+use Rattle.std.specs.Prelude.{Option, Some, None}
 use Rattle.production.specs.declared.Stage.{Stage}
 use Rattle.production.specs.declared.Stage.TheVariants.{NoCar, FirstMet, FirstFailed, SecondMet, SecondFailed, BothMet, NotBothMet}
-use Rattle.production.specs.declared.Restored.{Restored}
-use Rattle.production.specs.declared.Restored.TheVariants.{At, NoSuchStage}
+use Rattle.production.specs.declared.Check.{Check}
 use Rattle.production.specs.Numbers.{stage_number, restored_of, check_numbers, ComesBack, KeepsItsNumbers}
 
-with_stage : (limit : ℕ) (stage : Stage) → restored_of limit (stage_number stage) ≡ At (record { limit = limit; stage = stage })
+with_stage : (limit : ℕ) (stage : Stage) → restored_of limit (stage_number stage) ≡ Some (record { limit = limit; stage = stage })
 unfolding restored_of
 with_stage limit NoCar = refl
 with_stage limit FirstMet = refl
@@ -24,9 +24,9 @@ pub comes_back : ComesBack
 comes_back check = with_stage check.limit check.stage
 
 -- the numbers of what was restored
-numbers_in : Restored → List ℕ
-numbers_in (At check) = check_numbers check
-numbers_in NoSuchStage = []
+numbers_in : Option Check → List ℕ
+numbers_in (Some check) = check_numbers check
+numbers_in None = []
 
 pub keeps_its_numbers : KeepsItsNumbers
 unfolding restored_of numbers_in

@@ -1,10 +1,10 @@
 -- Production checks on the list of cars offered so far, in their order, each as its L_urban (document 02, wish 11; document 001, annex 7, 3, and
 -- its paragraph 8.1).
-use Rattle.std.specs.Prelude.{Bool, cond, ◌&&◌, List, [], ◌∷◌, ℕ, ◌+◌, ◌-◌, leb, length, take}
+use Rattle.std.specs.Prelude.{Bool, cond, ◌&&◌, List, [], ◌∷◌, ℕ, ◌+◌, ◌-◌, leb, length, take, Result, Ok, Err}
+use Rattle.refusal.specs.Refusal.{number_in}
 use Rattle.production.specs.declared.Status.{Status}
 use Rattle.production.specs.declared.Status.TheVariants.{Open, Conforms, DoesNotConform}
-use Rattle.production.specs.declared.Reply.{Reply}
-use Rattle.production.specs.declared.Reply.TheVariants.{Counted, AfterVerdict}
+use Rattle.production.specs.declared.AfterVerdict.{AfterVerdict}
 
 -- Paragraph 8.1: the limit is applied with 1 dB more. Both are whole numbers of any size.
 unfoldable pub meets : ℕ → ℕ → Bool
@@ -32,20 +32,32 @@ counted_of limit cars = length (take (asked_for limit cars) cars)
 abbrev pub wanted_of : ℕ → List ℕ → ℕ
 wanted_of limit cars = asked_for limit cars - counted_of limit cars
 
+-- A car is counted, or refused after the verdict.
+abbrev pub Reply : Type 0
+Reply = Result (Unit {0}) AfterVerdict
+
+-- the refusal at a number of cars counted
+abbrev pub refused_at : ℕ → Reply
+refused_at counted = Err (record { counted = counted })
+
 -- The reply to one more car after these: it is counted while there is no verdict, and refused after it, at the number of cars counted.
 abbrev pub reply_by : Status → ℕ → Reply
-reply_by Open counted = Counted
-reply_by Conforms counted = AfterVerdict counted
-reply_by DoesNotConform counted = AfterVerdict counted
+reply_by Open counted = Ok tt
+reply_by Conforms counted = refused_at counted
+reply_by DoesNotConform counted = refused_at counted
 
 abbrev pub reply_of : ℕ → List ℕ → Reply
 reply_of limit cars = reply_by (status_of limit cars) (counted_of limit cars)
 
 -- the number and the place of a refusal: 0 and 0 for a car that is counted
+abbrev pub number_of : AfterVerdict → ℕ
+number_of refusal = 20
+
+abbrev pub place_of : AfterVerdict → ℕ
+place_of refusal = refusal.counted
+
 abbrev pub reply_number : Reply → ℕ
-reply_number Counted = 0
-reply_number (AfterVerdict counted) = 20
+reply_number reply = number_in number_of reply
 
 abbrev pub reply_place : Reply → ℕ
-reply_place Counted = 0
-reply_place (AfterVerdict counted) = counted
+reply_place reply = number_in place_of reply

@@ -4,8 +4,7 @@ use Rattle.production.specs.declared.Check.{Check}
 use Rattle.production.specs.declared.Offered.{Offered}
 use Rattle.production.specs.declared.Status.{Status}
 use Rattle.production.specs.declared.Status.TheVariants.{Open, DoesNotConform}
-use Rattle.production.specs.declared.Reply.TheVariants.{AfterVerdict}
-use Rattle.production.specs.Annex.{meets, status_of, wanted_of, reply_of}
+use Rattle.production.specs.Annex.{meets, refused_at, status_of, wanted_of, reply_of}
 use Rattle.production.specs.Stages.{status_at, start_of, offer_of}
 
 -- the check after these cars, each offered to the check that the one before it gave back
@@ -34,7 +33,7 @@ OfferByAnnex check car offered = (limit : ℕ) (cars : List ℕ) → check ≡ c
 -- ---- what it promises of any check: a refused car leaves it as it was
 
 abbrev pub KeptIfRefused : Check → Offered → Type 0
-KeptIfRefused check offered = (counted : ℕ) → offered.reply ≡ AfterVerdict counted → offered.check ≡ check
+KeptIfRefused check offered = (counted : ℕ) → offered.reply ≡ refused_at counted → offered.check ≡ check
 
 -- ---- laws
 
@@ -48,7 +47,7 @@ VerdictStays = (check : Check) → (status_at check.stage ≡ Open → ⊥) → 
 
 -- A refused car changes nothing for the cars after it either: the check stays, and they are refused at the same place.
 abbrev pub RefusedChangesNothing : Type 0
-RefusedChangesNothing = (check : Check) (car counted : ℕ) → (offer_of check car).reply ≡ AfterVerdict counted → (later : List ℕ) → (after_cars check (car ∷ later) ≡ check) × ((next : ℕ) → (offer_of (after_cars check (car ∷ later)) next).reply ≡ AfterVerdict counted)
+RefusedChangesNothing = (check : Check) (car counted : ℕ) → (offer_of check car).reply ≡ refused_at counted → (later : List ℕ) → (after_cars check (car ∷ later) ≡ check) × ((next : ℕ) → (offer_of (after_cars check (car ∷ later)) next).reply ≡ refused_at counted)
 
 -- After a first car that fails, the check is open until two more were measured.
 abbrev pub TwoMoreAlways : Type 0

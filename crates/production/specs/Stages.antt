@@ -1,15 +1,13 @@
 -- A check as the code keeps it: the stage stands for what the cars counted so far have given. Here is what each function answers; `Sequences` has
 -- what follows from it for all the cars of a check.
-use Rattle.std.specs.Prelude.{Bool, cond, ℕ}
+use Rattle.std.specs.Prelude.{Bool, cond, ℕ, Ok}
 use Rattle.production.specs.declared.Stage.{Stage}
 use Rattle.production.specs.declared.Stage.TheVariants.{NoCar, FirstMet, FirstFailed, SecondMet, SecondFailed, BothMet, NotBothMet}
 use Rattle.production.specs.declared.Check.{Check}
 use Rattle.production.specs.declared.Status.{Status}
 use Rattle.production.specs.declared.Status.TheVariants.{Open, Conforms, DoesNotConform}
-use Rattle.production.specs.declared.Reply.{Reply}
-use Rattle.production.specs.declared.Reply.TheVariants.{Counted, AfterVerdict}
 use Rattle.production.specs.declared.Offered.{Offered}
-use Rattle.production.specs.Annex.{meets}
+use Rattle.production.specs.Annex.{meets, Reply, refused_at}
 
 -- ---- the status and the number of cars still wanted
 
@@ -35,13 +33,13 @@ wanted_at NotBothMet = 0
 
 -- the reply to it
 abbrev pub reply_at : Stage → Reply
-reply_at NoCar = Counted
-reply_at FirstMet = AfterVerdict 1
-reply_at FirstFailed = Counted
-reply_at SecondMet = Counted
-reply_at SecondFailed = Counted
-reply_at BothMet = AfterVerdict 3
-reply_at NotBothMet = AfterVerdict 3
+reply_at NoCar = Ok tt
+reply_at FirstMet = refused_at 1
+reply_at FirstFailed = Ok tt
+reply_at SecondMet = Ok tt
+reply_at SecondFailed = Ok tt
+reply_at BothMet = refused_at 3
+reply_at NotBothMet = refused_at 3
 
 -- the stage that it leads to, by whether it met the requirement
 abbrev pub next_stage : Stage → Bool → Stage

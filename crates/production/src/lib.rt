@@ -3,14 +3,15 @@
 #![tactic(auto)]
 
 ghost use Rattle.std.specs.Prelude.{◌≡◌};
-ghost use Rattle.production.specs.Annex.{meets, reply_number, reply_place};
+ghost use Rattle.production.specs.Annex.{meets, number_of, place_of};
 ghost use Rattle.production.specs.Stages.{status_at, wanted_at, reply_at, next_stage, start_of, offer_of};
 ghost use Rattle.production.specs.Sequences.{StatusByAnnex, WantedByAnnex, OfferByAnnex, KeptIfRefused};
-ghost use Rattle.production.specs.Numbers.{status_number, stage_number, restored_of};
-ghost use Rattle.production.specs.declared.Restored.TheVariants.{At};
+ghost use Rattle.production.specs.Numbers.{status_number, stage_number, stage_of, restored_of};
+
+use refusal::Numbered;
 
 // What the cars counted so far have given.
-#[derive(Clone, Copy)]
+#[derive(Clone, Copy, Debug, PartialEq, Eq)]
 pub enum Stage {
     // no car
     NoCar,
@@ -29,36 +30,36 @@ pub enum Stage {
 }
 
 // A check under way or at its end. The limit is in whole dB(A), without the 1 dB that the requirement adds.
-#[derive(Clone, Copy)]
+#[derive(Clone, Copy, Debug, PartialEq, Eq)]
 pub struct Check {
     pub limit: u16,
     pub stage: Stage,
 }
 
 // What is known of the type.
-#[derive(Clone, Copy)]
+#[derive(Clone, Copy, Debug, PartialEq, Eq)]
 pub enum Status {
     Open,
     Conforms,
     DoesNotConform,
 }
 
-// The reply to an offered car.
-#[derive(Clone, Copy)]
-pub enum Reply {
-    Counted,
-    // 20: the verdict was given; the number of cars counted
-    AfterVerdict(u8),
+// 20: a car offered after the verdict, which is not counted.
+#[derive(Clone, Copy, Debug, PartialEq, Eq)]
+pub struct AfterVerdict {
+    // the number of cars counted before it
+    pub counted: u8,
 }
 
 // What an offered car gives: the check from then on, and the reply.
-#[derive(Clone, Copy)]
+#[derive(Clone, Copy, Debug, PartialEq, Eq)]
 pub struct Offered {
     pub check: Check,
-    pub reply: Reply,
+    pub reply: Result<(), AfterVerdict>,
 }
 
 // Whether an L_urban meets the requirement. The sum is made at 32 bits, since 65,535 + 1 does not fit into 16.
+#[tactic(auto, unfolding(crate::specs::Annex::meets))]
 fn meets(limit: u16, l_urban: u16) -> bool
     ensures { result ≡ meets limit l_urban }
 {
@@ -129,17 +130,17 @@ fn wanted_at(stage: Stage) -> u8
 }
 
 // The reply to the next car.
-fn reply_at(stage: Stage) -> Reply
+fn reply_at(stage: Stage) -> Result<(), AfterVerdict>
     ensures { result ≡ reply_at stage }
 {
     match stage {
-        Stage::NoCar => Reply::Counted,
-        Stage::FirstMet => Reply::AfterVerdict(1),
-        Stage::FirstFailed => Reply::Counted,
-        Stage::SecondMet => Reply::Counted,
-        Stage::SecondFailed => Reply::Counted,
-        Stage::BothMet => Reply::AfterVerdict(3),
-        Stage::NotBothMet => Reply::AfterVerdict(3),
+        Stage::NoCar => Ok(()),
+        Stage::FirstMet => Err(AfterVerdict { counted: 1 }),
+        Stage::FirstFailed => Ok(()),
+        Stage::SecondMet => Ok(()),
+        Stage::SecondFailed => Ok(()),
+        Stage::BothMet => Err(AfterVerdict { counted: 3 }),
+        Stage::NotBothMet => Err(AfterVerdict { counted: 3 }),
     }
 }
 
@@ -155,66 +156,69 @@ impl Check {
     }
 
     // Offers a car by its L_urban, any number.
+    #[tactic(auto, unfolding(crate::specs::Stages::offer_of))]
     pub fn offer(self, l_urban: u16) -> Offered
         ensures stage { result ≡ offer_of self l_urban }
         ensures annex { OfferByAnnex self l_urban result }
         ensures refused { KeptIfRefused self result }
     {
         let limit = self.limit;
-        let stage = self.stage;
-        let next = next_stage(stage, meets(limit, l_urban));
+        let next = next_stage(self.stage, meets(limit, l_urban));
         let check = Check { limit, stage: next };
-        let reply = reply_at(stage);
+        let reply = reply_at(self.stage);
         Offered { check, reply }
     }
 
     // What is known of the type after the cars so far.
+    #[tactic(auto, using(crate::proofs::Sequences::status_by_annex))]
     pub fn status(self) -> Status
         ensures stage { result ≡ status_at self.stage }
         ensures annex { StatusByAnnex self result }
     {
-        let stage = self.stage;
-        status_at(stage)
+        status_at(self.stage)
     }
 
     // The number of cars still wanted.
+    #[tactic(auto, using(crate::proofs::Sequences::wanted_by_annex))]
     pub fn wanted(self) -> u8
         ensures stage { result ≡ wanted_at self.stage }
         ensures annex { WantedByAnnex self result }
     {
-        let stage = self.stage;
-        wanted_at(stage)
+        wanted_at(self.stage)
+    }
+
+    // The check with a limit and the number of a stage; none if no stage has this number.
+    #[tactic(auto, unfolding(crate::specs::Numbers::stage_of, crate::specs::Numbers::restored_of))]
+    pub fn restore(limit: u16, stage: u16) -> Option<Check>
+        ensures { result ≡ restored_of limit stage }
+    {
+        let stage = Stage::try_from(stage).ok()?;
+        Some(Check { limit, stage })
     }
 }
 
-impl Reply {
-    // The number of the refusal; 0 if the car is counted.
-    pub fn number(self) -> u8
-        ensures { result ≡ reply_number self }
-    {
-        match self {
-            Reply::Counted => 0,
-            Reply::AfterVerdict(_) => 20,
-        }
+impl Numbered for AfterVerdict {
+    ghost number = { number_of };
+
+    ghost place = { place_of };
+
+    // 20
+    fn number(self) -> u8 {
+        20
     }
 
-    // Its place: the number of cars counted before it, or 0.
-    pub fn place(self) -> usize
-        ensures { result ≡ reply_place self }
-    {
-        match self {
-            Reply::Counted => 0,
-            Reply::AfterVerdict(counted) => counted as usize,
-        }
+    // The number of cars counted.
+    fn place(self) -> usize {
+        self.counted as usize
     }
 }
 
-impl Status {
-    // The number of a status, for C and Rust.
-    pub fn number(self) -> u8
-        ensures { result ≡ status_number self }
-    {
-        match self {
+// The number of a status, for C and Rust.
+impl From<Status> for u8 {
+    ghost from_gives = { λ status number. number ≡ status_number status };
+
+    fn from(status: Status) -> u8 {
+        match status {
             Status::Open => 0,
             Status::Conforms => 1,
             Status::DoesNotConform => 2,
@@ -222,12 +226,12 @@ impl Status {
     }
 }
 
-impl Stage {
-    // The number of a stage, for C and Rust.
-    pub fn number(self) -> u16
-        ensures { result ≡ stage_number self }
-    {
-        match self {
+// The number of a stage, for C and Rust.
+impl From<Stage> for u16 {
+    ghost from_gives = { λ stage number. number ≡ stage_number stage };
+
+    fn from(stage: Stage) -> u16 {
+        match stage {
             Stage::NoCar => 0,
             Stage::FirstMet => 1,
             Stage::FirstFailed => 2,
@@ -239,35 +243,26 @@ impl Stage {
     }
 }
 
-// A check made from its limit and the number of its stage.
-#[derive(Clone, Copy)]
-pub enum Restored {
-    At(Check),
-    // no stage has this number
-    NoSuchStage,
-}
+// A number that no stage has.
+#[derive(Clone, Copy, Debug, PartialEq, Eq)]
+pub struct NoSuchStage;
 
-// A check that is restored at a stage.
-fn at_stage(limit: u16, stage: Stage) -> Restored
-    ensures { result ≡ At (record { limit = limit; stage = stage }) }
-{
-    Restored::At(Check { limit, stage })
-}
+impl TryFrom<u16> for Stage {
+    type Error = NoSuchStage;
 
-impl Check {
-    // The check with a limit and the number of a stage.
-    pub fn restore(limit: u16, stage: u16) -> Restored
-        ensures { result ≡ restored_of limit stage }
-    {
-        match stage {
-            0 => at_stage(limit, Stage::NoCar),
-            1 => at_stage(limit, Stage::FirstMet),
-            2 => at_stage(limit, Stage::FirstFailed),
-            3 => at_stage(limit, Stage::SecondMet),
-            4 => at_stage(limit, Stage::SecondFailed),
-            5 => at_stage(limit, Stage::BothMet),
-            6 => at_stage(limit, Stage::NotBothMet),
-            _ => Restored::NoSuchStage,
+    ghost try_from_gives = { λ number stage. stage ≡ stage_of number };
+
+    #[tactic(auto, unfolding(crate::specs::Numbers::stage_of))]
+    fn try_from(number: u16) -> Result<Stage, NoSuchStage> {
+        match number {
+            0 => Ok(Stage::NoCar),
+            1 => Ok(Stage::FirstMet),
+            2 => Ok(Stage::FirstFailed),
+            3 => Ok(Stage::SecondMet),
+            4 => Ok(Stage::SecondFailed),
+            5 => Ok(Stage::BothMet),
+            6 => Ok(Stage::NotBothMet),
+            _ => Err(NoSuchStage),
         }
     }
 }

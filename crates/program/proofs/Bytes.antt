@@ -6,22 +6,10 @@ use Rattle.std.proofs.Math.Seq.{take-add, take-append_seam}
 use Rattle.std.proofs.KnownBytes.{Keeps-trans, Consumes-trans, Appends-trans}
 use Rattle.text.specs.Text.{onto}
 use Rattle.line.specs.Line.{line_of_sheet}
-use Rattle.program.specs.declared.Ending.TheVariants.{Printed, NotWritten}
+use Rattle.program.specs.declared.Failure.TheVariants.{NotWritten}
 use Rattle.program.proofs.Room.{line_of_all}
-use Rattle.program.specs.Program.{transfer_of, interrupted_by}
-use Rattle.program.specs.Streams.{Took, Gave, GavePart, Prints}
-
--- ---- one call
-
-pub took : (old new : Option (List ℕ)) (piece : List ℕ) (r : Result ℕ Error) → ReadConsumes old new r piece → Took old new piece (transfer_of r)
-unfolding transfer_of
-took old new piece (Ok n) h = h
-took old new piece (Err e) h = h
-
-pub gave : (old new : Option (List ℕ)) (piece : List ℕ) (r : Result ℕ Error) → WriteAppends old new r piece → Gave old new piece (transfer_of r)
-unfolding transfer_of
-gave old new piece (Ok n) h = h
-gave old new piece (Err e) h = h
+use Rattle.program.specs.Program.{interrupted_by}
+use Rattle.program.specs.Streams.{GavePart, Prints}
 
 -- ---- a call after one that was interrupted, which moved nothing
 
@@ -67,12 +55,12 @@ take-onto n text old e = ap (λ k. take k (text ++ drop (length text) old)) e �
 
 -- ---- the whole job
 
-pub prints : (a b old new : Option (List ℕ)) (sheet : List ℕ) (n k : ℕ) → length sheet ≡ 32769 → n ≤ length sheet → Consumes a b (take n sheet) → (n < length sheet → IsAtEnd b) → Appends old new (line_of_sheet (take n sheet)) → Prints a old new (Printed n k)
+pub prints : (a b old new : Option (List ℕ)) (sheet : List ℕ) (n k : ℕ) → length sheet ≡ 32769 → n ≤ length sheet → Consumes a b (take n sheet) → (n < length sheet → IsAtEnd b) → Appends old new (line_of_sheet (take n sheet)) → Prints a old new (Ok (record { read = n; written = k }))
 prints None b old new sheet n k room h took end gave = tt
 prints (Some x) None old new sheet n k room h took end gave = absurd took
 prints (Some x) (Some y) old new sheet n k room h took end gave = subst (Appends old new) (line_of_all sheet x y n room h took end) gave
 
-pub prints_part : (a b old new : Option (List ℕ)) (sheet : List ℕ) (n : ℕ) (e : Error) → length sheet ≡ 32769 → n ≤ length sheet → Consumes a b (take n sheet) → (n < length sheet → IsAtEnd b) → GavePart old new (line_of_sheet (take n sheet)) → Prints a old new (NotWritten n e)
+pub prints_part : (a b old new : Option (List ℕ)) (sheet : List ℕ) (n : ℕ) (e : Error) → length sheet ≡ 32769 → n ≤ length sheet → Consumes a b (take n sheet) → (n < length sheet → IsAtEnd b) → GavePart old new (line_of_sheet (take n sheet)) → Prints a old new (Err (NotWritten n e))
 prints_part None b old new sheet n e room h took end gave = tt
 prints_part (Some x) None old new sheet n e room h took end gave = absurd took
 prints_part (Some x) (Some y) old new sheet n e room h took end gave = subst (GavePart old new) (line_of_all sheet x y n room h took end) gave

@@ -1,15 +1,12 @@
 -- A byte string over 32,768 bytes is refused for its size, so no part of a longer input is evaluated. Assumes nothing.
-use Rattle.std.proofs.Common.{◌≡◌, sym, ap, ◌∙◌, true, List, [], ◌++◌, ℕ, ◌+◌, ◌≤◌, ◌<◌, length, take, replicate, arith, append-nil, length-append, lt-ltb, inl, inr}
+use Rattle.std.proofs.Common.{Err, ◌≡◌, sym, ap, ◌∙◌, true, List, [], ◌++◌, ℕ, ◌+◌, ◌≤◌, ◌<◌, length, take, replicate, arith, append-nil, length-append, lt-ltb, inl, inr}
 use Rattle.std.proofs.Math.Nat.{eq-or-lt_of_le}
 use Rattle.std.proofs.Math.Seq.{length-take-le}
 use borrow.Author.Tests.{ne_eqb}
 use Rattle.refusal.specs.declared.Refusal.TheVariants.{WrongSize}
-use Rattle.refusal.specs.declared.Answer.TheVariants.{Refused}
 use Rattle.sheet.specs.Sheet.{wrong_size, layouts}
 use Rattle.sheet.proofs.Examinations.{row_2}
-use Rattle.decision.specs.declared.Decision.{Decision}
-use Rattle.decision.specs.declared.Decision.TheVariants as decision
-use Rattle.decision.specs.Decision.{decision_of}
+use Rattle.decision.specs.Decision.{Decision, decision_of}
 use Rattle.decision.proofs.Decisions.{of_examination}
 use Rattle.evaluation.specs.Answer.{answer_by, answer_for, answer_of, buffer_for, buffer_of}
 use Rattle.text.specs.Text.{onto}
@@ -20,10 +17,10 @@ too_long : (s : List ℕ) → 32768 < length s → wrong_size s ≡ true
 unfolding wrong_size
 too_long s h = simp (ne_eqb (length s) 0 (λ e. omega arith), lt-ltb 32768 (length s) h)
 
-refused : (s : List ℕ) → 32768 < length s → decision_of s ≡ decision.Refused WrongSize
+refused : (s : List ℕ) → 32768 < length s → decision_of s ≡ Err WrongSize
 refused s h = of_examination s WrongSize (row_2 layouts s (too_long s h))
 
-pub long_refused : (s : List ℕ) → 32768 < length s → answer_of s 32 ≡ Refused WrongSize
+pub long_refused : (s : List ℕ) → 32768 < length s → answer_of s 32 ≡ Err WrongSize
 unfolding answer_of answer_by
 long_refused s h = ap answer_by (refused s h)
 

@@ -8,7 +8,7 @@
 ghost use Rattle.std.specs.Prelude.{◌≡◌, ◌-◌, ◌≤◌, length, take, drop};
 ghost use Rattle.text.specs.Text.{onto};
 ghost use Rattle.line.specs.Line.{line_of_sheet};
-ghost use Rattle.program.specs.Program.{transfer_of, interrupted_by, Within, Exactly, Ran};
+ghost use Rattle.program.specs.Program.{interrupted_by, Retried, Within, Exactly, Ran};
 ghost use Rattle.program.specs.Streams.{Took, TookAll, Gave, GaveWhole, TookSheet, GaveLine, Prints};
 
 use std::io;
@@ -19,32 +19,22 @@ pub const SHEET_ROOM: usize = 32769;
 
 pub const LINE_ROOM: usize = line::ROOM;
 
-// What a call of read or write came to: how many bytes it moved, or why it failed.
-#[derive(Clone, Copy)]
-pub enum Transfer {
-    Bytes(usize),
-    Failed(io::Error),
+// The job done: the numbers of bytes that were read and written.
+#[derive(Clone, Copy, Debug)]
+pub struct Printed {
+    pub read: usize,
+    pub written: usize,
 }
 
-// What became of the job, with the numbers of bytes that were read and written, or why they were not.
-#[derive(Clone, Copy)]
-pub enum Ending {
-    Printed { read: usize, written: usize },
+// Why it was not done.
+#[derive(Clone, Copy, Debug)]
+pub enum Failure {
     NotRead { error: io::Error },
     NotWritten { read: usize, error: io::Error },
 }
 
-// What the answer of read or write means.
-fn transfer_of(got: io::Result<usize>) -> Transfer
-    ensures { result ≡ transfer_of got }
-{
-    match got {
-        Ok(n) => Transfer::Bytes(n),
-        Err(error) => Transfer::Failed(error),
-    }
-}
-
 // Whether a signal interrupted the call before it moved a byte, by its answer.
+#[tactic(auto, unfolding(crate::specs::Program::interrupted_by, crate::specs::Program::is_eintr))]
 fn interrupted(got: &io::Result<usize>) -> bool
     ensures { result ≡ interrupted_by got.now }
 {
@@ -54,24 +44,32 @@ fn interrupted(got: &io::Result<usize>) -> bool
     }
 }
 
-// Reads once into a piece, and again as long as a signal interrupts it. The turns are counted, since a proved loop ends and nothing says that
-// the signals do.
-fn read_piece<R: Read>(input: &mut R, piece: &mut [u8]) -> Transfer
-    ensures within { Within (length piece.old) result }
-    ensures took { Took (R.remaining input.old) (R.remaining input.new) piece.new result }
+// Calls once, and again as long as a signal interrupts the call. The turns are counted, since a proved loop ends and nothing says that the
+// signals do. The function to call is lent, so that after the last call it is known what became of what it borrows.
+fn retry<F: FnMut() -> io::Result<usize>>(call: &mut F) -> io::Result<usize>
+    requires { F.IsAlwaysCallable call.old }
+    ensures { Retried F.step call.old result call.new }
 {
-    let mut got = input.read(piece);
+    let mut got = call();
     for _ in 0..u32::MAX {
         if !interrupted(&got) {
             break;
         }
-        got = input.read(piece);
+        got = call();
     }
-    transfer_of(got)
+    got
+}
+
+// Reads a piece, as far as one call fills it.
+fn read_piece<R: Read>(input: &mut R, piece: &mut [u8]) -> io::Result<usize>
+    ensures within { Within (length piece.old) result }
+    ensures took { Took (R.remaining input.old) (R.remaining input.new) piece.new result }
+{
+    retry(&mut || input.read(piece))
 }
 
 // Reads a piece into the sheet from `at` on; the bytes before it stay.
-fn read_on<R: Read>(input: &mut R, sheet: &mut [u8], at: usize) -> Transfer
+fn read_on<R: Read>(input: &mut R, sheet: &mut [u8], at: usize) -> io::Result<usize>
     requires { at ≤ length sheet.old }
     ensures within { Within (length sheet.old - at) result }
     ensures kept { take at sheet.new ≡ take at sheet.old }
@@ -81,60 +79,51 @@ fn read_on<R: Read>(input: &mut R, sheet: &mut [u8], at: usize) -> Transfer
 }
 
 // Reads until the input ends or the sheet is full: a read of no bytes is the end, one that fails is a failure.
-fn read_sheet<R: Read>(input: &mut R, sheet: &mut [u8]) -> Transfer
+fn read_sheet<R: Read>(input: &mut R, sheet: &mut [u8]) -> io::Result<usize>
     ensures within { Within (length sheet.old) result }
     ensures took { TookAll (R.remaining input.old) (R.remaining input.new) sheet.new result }
 {
     let mut at = 0;
     while at < sheet.len() {
-        let piece = read_on(input, sheet, at);
-        let Transfer::Bytes(n) = piece else {
-            return piece;
-        };
+        let n = read_on(input, sheet, at)?;
         if n == 0 {
             break;
         }
         at += n;
     }
-    Transfer::Bytes(at)
+    Ok(at)
 }
 
-// Writes once, and again as long as a signal interrupts it; the turns are counted as in `read_piece`.
-fn write_piece<W: Write>(output: &mut W, piece: &[u8]) -> Transfer
+// Writes a piece, as far as one call takes it.
+fn write_piece<W: Write>(output: &mut W, piece: &[u8]) -> io::Result<usize>
     ensures within { Within (length piece.now) result }
     ensures gave { Gave (W.contents output.old) (W.contents output.new) piece.now result }
 {
-    let mut got = output.write(piece);
-    for _ in 0..u32::MAX {
-        if !interrupted(&got) {
-            break;
-        }
-        got = output.write(piece);
-    }
-    transfer_of(got)
+    retry(&mut || output.write(piece))
 }
 
 // Writes all the bytes, piece by piece; a write that fails or takes none is a failure.
-fn write_whole<W: Write>(output: &mut W, bytes: &[u8]) -> Transfer
+fn write_whole<W: Write>(output: &mut W, bytes: &[u8]) -> io::Result<usize>
     ensures exactly { Exactly (length bytes.now) result }
     ensures gave { GaveWhole (W.contents output.old) (W.contents output.new) bytes.now result }
 {
     let mut at = 0;
     while at < bytes.len() {
-        let piece = write_piece(output, &bytes[at..]);
-        let Transfer::Bytes(n) = piece else {
-            return piece;
-        };
+        let n = write_piece(output, &bytes[at..])?;
         if n == 0 {
-            return Transfer::Failed(io::Error::from(ErrorKind::WriteZero));
+            return Err(io::Error::from(ErrorKind::WriteZero));
         }
         at += n;
     }
-    Transfer::Bytes(at)
+    Ok(at)
 }
 
 // Evaluates a sheet, lays out its line and writes it.
-pub fn print_line<W: Write>(sheet: &[u8], line: &mut [u8; LINE_ROOM], output: &mut W) -> Transfer
+pub fn print_line<W: Write>(
+    sheet: &[u8],
+    line: &mut [u8; LINE_ROOM],
+    output: &mut W,
+) -> io::Result<usize>
     ensures laid { line.new ≡ onto (line_of_sheet sheet.now) line.old }
     ensures exactly { Exactly (length (line_of_sheet sheet.now)) result }
     ensures gave { GaveWhole (W.contents output.old) (W.contents output.new) (line_of_sheet sheet.now) result }
@@ -145,27 +134,21 @@ pub fn print_line<W: Write>(sheet: &[u8], line: &mut [u8; LINE_ROOM], output: &m
 }
 
 // Reads a sheet to the end of the input, evaluates it and prints its line.
+#[tactic(auto, using(crate::proofs::Bytes::prints, crate::proofs::Bytes::prints_part))]
 pub fn run<R: Read, W: Write>(
     input: &mut R,
     output: &mut W,
     sheet: &mut [u8; SHEET_ROOM],
     line: &mut [u8; LINE_ROOM],
-) -> Ending
+) -> Result<Printed, Failure>
     ensures ran { Ran sheet.new line.old line.new result }
     ensures took { TookSheet (R.remaining input.old) (R.remaining input.new) sheet.new result }
     ensures gave { GaveLine (W.contents output.old) (W.contents output.new) sheet.new result }
     ensures prints { Prints (R.remaining input.old) (W.contents output.old) (W.contents output.new) result }
 {
-    let got = read_sheet(input, sheet);
-    let read = match got {
-        Transfer::Bytes(read) => read,
-        Transfer::Failed(error) => return Ending::NotRead { error },
-    };
+    let read = read_sheet(input, sheet).map_err(|error| Failure::NotRead { error })?;
     let bytes: &[u8] = sheet;
     let put = print_line(&bytes[..read], line, output);
-    let written = match put {
-        Transfer::Bytes(written) => written,
-        Transfer::Failed(error) => return Ending::NotWritten { read, error },
-    };
-    Ending::Printed { read, written }
+    let written = put.map_err(|error| Failure::NotWritten { read, error })?;
+    Ok(Printed { read, written })
 }

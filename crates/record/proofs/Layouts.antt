@@ -7,11 +7,10 @@ use lib.Dec.{T, leb→le, eqb→eq}
 use lib.ListN.{length, get_or}
 use lib.Ieee.{binary32, of_bits, nan_bits}
 use borrow.Author.Tests.{eq-eqb}
+use Rattle.std.proofs.Common.{Option, Some, None}
 use Rattle.units.specs.Bytes.{number}
 use Rattle.units.proofs.Tests.{each}
 use Rattle.level.specs.declared.Reading.{Reading}
-use Rattle.level.specs.declared.Found.{Found}
-use Rattle.level.specs.declared.Found.TheVariants.{Good, Broken}
 use Rattle.level.specs.Reading.{reading_of, in_range}
 use Rattle.level.proofs.Readings.{no_nan, good_in_range}
 use Rattle.record.specs.Records.{byte, word, readable, run_tests, run_good}
@@ -46,16 +45,16 @@ run_ranges r e =
 
 -- ---- the readings of a good run record
 
-pub readable_good : (f : Found) → T (readable f) → (r : Reading) × (f ≡ Good r)
-readable_good (Good r) t = (r, refl)
-readable_good Broken t = absurd t
+pub readable_good : (f : Option Reading) → T (readable f) → (r : Reading) × (f ≡ Some r)
+readable_good (Some r) t = (r, refl)
+readable_good None t = absurd t
 
 -- each side's bytes give a reading
-pub left_is_good : (r : List ℕ) → run_good r ≡ true → (x : Reading) × (reading_of (byte r 3) (number r 8 4) ≡ Good x)
+pub left_is_good : (r : List ℕ) → run_good r ≡ true → (x : Reading) × (reading_of (byte r 3) (number r 8 4) ≡ Some x)
 unfolding run_good run_tests
 left_is_good r e = readable_good (reading_of (byte r 3) (number r 8 4)) (each (run_tests r) (rw e tt) 4)
 
-pub right_is_good : (r : List ℕ) → run_good r ≡ true → (x : Reading) × (reading_of (byte r 4) (number r 12 4) ≡ Good x)
+pub right_is_good : (r : List ℕ) → run_good r ≡ true → (x : Reading) × (reading_of (byte r 4) (number r 12 4) ≡ Some x)
 unfolding run_good run_tests
 right_is_good r e = readable_good (reading_of (byte r 4) (number r 12 4)) (each (run_tests r) (rw e tt) 5)
 

@@ -1,17 +1,24 @@
 -- Records of 32 bytes: their fields, and the layout of each kind (document 01, "The sheet"; document 02, wishes 1 and 8). A layout is a list of
 -- tests: every field with its range, and every zero byte.
-use Rattle.std.specs.Prelude.{Bool, true, false, cond, not, ◌&&◌, ◌||◌, List, [], ◌∷◌, ℕ, zero, suc, ◌+◌, ◌*◌, ◌/◌, leb, ltb, eqb, Float, length, take, drop, get_or}
+use Rattle.std.specs.Prelude.{Bool, true, false, Option, Some, None, cond, not, ◌&&◌, ◌||◌, List, [], ◌∷◌, ℕ, zero, suc, ◌+◌, ◌*◌, ◌/◌, leb, ltb, eqb, Float, length, take, drop, get_or}
 use Rattle.std.specs.Float.{binary32}
 use Rattle.std.specs.Float.Ieee.{of_bits}
 use Rattle.units.specs.Bytes.{number}
 use Rattle.units.specs.Tests.{all_of}
 use Rattle.level.specs.declared.Reading.{Reading}
 use Rattle.level.specs.declared.Reading.TheVariants.{Level, Overload, Absent}
-use Rattle.level.specs.declared.Found.{Found}
-use Rattle.level.specs.declared.Found.TheVariants as found
 use Rattle.level.specs.Reading.{reading_of}
 use Rattle.record.specs.declared.Backgrounds.{Backgrounds}
+use Rattle.record.specs.declared.Category.{Category}
+use Rattle.record.specs.declared.Category.TheVariants.{M1, N1}
+use Rattle.record.specs.declared.Category.TheVariants as category
+use Rattle.record.specs.declared.StartLine.{StartLine}
+use Rattle.record.specs.declared.StartLine.TheVariants.{Aa, Pp}
+use Rattle.record.specs.declared.StartLine.TheVariants as line
 use Rattle.record.specs.declared.Vehicle.{Vehicle}
+use Rattle.record.specs.declared.RunKind.{RunKind}
+use Rattle.record.specs.declared.RunKind.TheVariants.{Acceleration, ConstantSpeed}
+use Rattle.record.specs.declared.RunKind.TheVariants as kind
 use Rattle.record.specs.declared.Run.{Run}
 use Rattle.record.specs.declared.Closing.{Closing}
 
@@ -94,11 +101,19 @@ vehicle_tests unwritten asked r =
 unfoldable pub vehicle_good : List ℕ → Bool
 vehicle_good r = all_of (vehicle_tests looked_up right_good r)
 
+-- byte 1: 1 is M1 and 2 is N1; a good record has no other
+abbrev pub category_of : ℕ → Category
+category_of b = cond (eqb b 1) M1 (cond (eqb b 2) N1 (category.Other b))
+
+-- byte 2: 0 is AA' and 1 is PP'; a good record has no other
+abbrev pub start_line_of : ℕ → StartLine
+start_line_of b = cond (eqb b 0) Aa (cond (eqb b 1) Pp (line.Other b))
+
 unfoldable pub vehicle_in : List ℕ → Vehicle
 vehicle_in r =
     record {
-      category = byte r 1;
-      start_line = byte r 2;
+      category = category_of (byte r 1);
+      start_line = start_line_of (byte r 2);
       power = word r 4;
       mass = word r 6;
       length = word r 8;
@@ -110,15 +125,20 @@ vehicle_in r =
     }
 
 -- "From levels to windows", step 6: the path in cm, c + length, c 2,000 from AA' and 1,000 from PP'
+abbrev pub c_of : StartLine → ℕ
+c_of Aa = 2000
+c_of Pp = 1000
+c_of (line.Other b) = 1000
+
 abbrev pub path_of : Vehicle → ℕ
-path_of v = cond (eqb v.start_line 0) 2000 1000 + v.length
+path_of v = c_of v.start_line + v.length
 
 -- ---- a run record
 
 -- a reading is good if its kind and its bytes give one
-abbrev pub readable : Found → Bool
-readable (found.Good r) = true
-readable found.Broken = false
+abbrev pub readable : Option Reading → Bool
+readable (Some r) = true
+readable None = false
 
 unfoldable pub run_tests : List ℕ → List Bool
 run_tests r =
@@ -146,10 +166,19 @@ run_tests r =
 unfoldable pub run_good : List ℕ → Bool
 run_good r = all_of (run_tests r)
 
+-- the kinds of a run by byte 0: 2 is an acceleration and 3 a constant speed; a good record has no other
+abbrev pub kind_byte : RunKind → ℕ
+kind_byte Acceleration = 2
+kind_byte ConstantSpeed = 3
+kind_byte (kind.Other b) = b
+
+abbrev pub kind_of : ℕ → RunKind
+kind_of b = cond (eqb b 2) Acceleration (cond (eqb b 3) ConstantSpeed (kind.Other b))
+
 unfoldable pub run_in : List ℕ → Run
 run_in r =
     record {
-      kind = byte r 0;
+      kind = kind_of (byte r 0);
       gear = byte r 1;
       struck = eqb (byte r 2) 1;
       left_kind = byte r 3;

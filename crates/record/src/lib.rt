@@ -7,9 +7,9 @@ ghost use Rattle.std.specs.Float.{binary32};
 ghost use Rattle.std.specs.Float.Ieee.{nan_bits};
 ghost use Rattle.units.specs.Bytes.{number};
 ghost use Rattle.level.specs.Reading.{reading_of};
-ghost use Rattle.record.specs.Records.{record_at, byte, word, within, zeros, backgrounds_in, vehicle_good, vehicle_in, path_of, run_in, reading_from, readable, run_good, closing_good, closing_in};
+ghost use Rattle.record.specs.Records.{record_at, byte, word, within, zeros, backgrounds_in, category_of, start_line_of, vehicle_good, vehicle_in, path_of, kind_byte, kind_of, run_in, reading_from, readable, run_good, closing_good, closing_in};
 
-use level::{Found, Reading};
+use level::Reading;
 use units::Tenths;
 
 // A record: the constants that belong to it, and how one is shown.
@@ -31,6 +31,7 @@ impl Record {
     pub const CLOSING: u8 = 9;
 
     // Record `number` of any byte string, from 0: its bytes as they stand there, or an empty part if there is no such whole record.
+    #[tactic(auto, using(crate::proofs::Shown::shown, crate::proofs::Shown::none), unfolding(crate::specs::Records::records))]
     pub fn at(sheet: &[u8], number: usize) -> &[u8]
         ensures { result.now ≡ record_at sheet.now number }
     {
@@ -64,18 +65,12 @@ fn word_within(r: &[u8], at: usize, low: u16, high: u16) -> bool
     (low <= w) & (w <= high)
 }
 
-// Whether the bytes from `at` to before `end` are zero. All are read, so that the loop has no branch in it.
+// Whether the bytes from `at` to before `end` are zero.
 fn blank(r: &[u8], at: usize, end: usize) -> bool
     requires { (at ≤ end) × (end ≤ length r.now) }
     ensures { result ≡ zeros r.now at (end - at) }
 {
-    let mut ok = true;
-    let mut i = at;
-    while i < end {
-        ok = ok & (r[i] == 0);
-        i += 1;
-    }
-    ok
+    r[at..end].iter().all(|&b| b == 0)
 }
 
 // ---- the backgrounds of a record
@@ -88,6 +83,7 @@ pub struct Backgrounds {
 }
 
 // The backgrounds of the fields at `left` and `right`; zero on the right stands for the left's.
+#[tactic(auto, unfolding(crate::specs::Records::backgrounds_in))]
 fn backgrounds_in(r: &[u8], left: usize, right: usize) -> Backgrounds
     requires { (left + 2 ≤ length r.now) × (right + 2 ≤ length r.now) }
     ensures { result ≡ backgrounds_in r.now left right }
@@ -103,12 +99,54 @@ fn backgrounds_in(r: &[u8], left: usize, right: usize) -> Backgrounds
 
 // ---- the vehicle record
 
+// The category of the vehicle. A good record has M1 or N1.
+#[derive(Clone, Copy, Debug, PartialEq, Eq)]
+pub enum Category {
+    M1,
+    N1,
+    // another byte
+    Other(u8),
+}
+
+impl From<u8> for Category {
+    ghost from_gives = { λ byte category. category ≡ category_of byte };
+
+    fn from(byte: u8) -> Category {
+        match byte {
+            1 => Category::M1,
+            2 => Category::N1,
+            _ => Category::Other(byte),
+        }
+    }
+}
+
+// The line where the acceleration starts. A good record has AA' or PP'.
+#[derive(Clone, Copy, Debug, PartialEq, Eq)]
+pub enum StartLine {
+    // AA'
+    Aa,
+    // PP'
+    Pp,
+    // another byte
+    Other(u8),
+}
+
+impl From<u8> for StartLine {
+    ghost from_gives = { λ byte line. line ≡ start_line_of byte };
+
+    fn from(byte: u8) -> StartLine {
+        match byte {
+            0 => StartLine::Aa,
+            1 => StartLine::Pp,
+            _ => StartLine::Other(byte),
+        }
+    }
+}
+
 #[derive(Clone, Copy)]
 pub struct Vehicle {
-    // 1 M1, 2 N1
-    pub category: u8,
-    // 0 AA', 1 PP'
-    pub start_line: u8,
+    pub category: Category,
+    pub start_line: StartLine,
     // tenths of kW
     pub power: u16,
     // kg, in running order
@@ -127,6 +165,7 @@ pub struct Vehicle {
     pub low_car: u8,
 }
 
+#[tactic(auto, unfolding(crate::specs::Records::vehicle_good, crate::specs::Records::vehicle_tests))]
 pub fn vehicle_good(r: &[u8]) -> bool
     ensures { result ≡ vehicle_good r.now }
 {
@@ -149,13 +188,14 @@ pub fn vehicle_good(r: &[u8]) -> bool
         & blank(r, 20, 32)
 }
 
+#[tactic(auto, unfolding(crate::specs::Records::vehicle_in))]
 pub fn vehicle_in(r: &[u8]) -> Vehicle
     requires { length r.now ≡ 32 }
     ensures { result ≡ vehicle_in r.now }
 {
     Vehicle {
-        category: r[1],
-        start_line: r[2],
+        category: Category::from(r[1]),
+        start_line: StartLine::from(r[2]),
         power: units::number16(r, 4),
         mass: units::number16(r, 6),
         length: units::number16(r, 8),
@@ -172,19 +212,54 @@ pub fn path_of(v: Vehicle) -> u16
     requires { v.length ≤ 2000 }
     ensures { result ≡ path_of v }
 {
-    if v.start_line == 0 {
-        2000 + v.length
-    } else {
-        1000 + v.length
+    match v.start_line {
+        StartLine::Aa => 2000 + v.length,
+        StartLine::Pp | StartLine::Other(_) => 1000 + v.length,
     }
 }
 
 // ---- a run record
 
+// The kind of a run. A good record has one of the first two.
+#[derive(Clone, Copy, Debug, PartialEq, Eq)]
+pub enum RunKind {
+    Acceleration,
+    ConstantSpeed,
+    // another byte
+    Other(u8),
+}
+
+impl RunKind {
+    // Byte 0 of a run record of this kind.
+    pub fn byte(self) -> u8
+        ensures { result ≡ kind_byte self }
+    {
+        match self {
+            RunKind::Acceleration => Record::ACCELERATION,
+            RunKind::ConstantSpeed => Record::CONSTANT_SPEED,
+            RunKind::Other(byte) => byte,
+        }
+    }
+}
+
+impl From<u8> for RunKind {
+    ghost from_gives = { λ byte kind. kind ≡ kind_of byte };
+
+    fn from(byte: u8) -> RunKind {
+        if byte == Record::ACCELERATION {
+            RunKind::Acceleration
+        } else if byte == Record::CONSTANT_SPEED {
+            RunKind::ConstantSpeed
+        } else {
+            RunKind::Other(byte)
+        }
+    }
+}
+
+// The two levels are the meter's floats as the record holds them, each beside its kind byte; `left_reading` and `right_reading` give the readings.
 #[derive(Clone, Copy)]
 pub struct Run {
-    // Record::ACCELERATION or Record::CONSTANT_SPEED
-    pub kind: u8,
+    pub kind: RunKind,
     pub gear: u8,
     pub struck: bool,
     // 1 a level, 2 an overload, 0 absent
@@ -201,6 +276,7 @@ pub struct Run {
 }
 
 // The run of a record that is known to be good.
+#[tactic(auto, unfolding(crate::specs::Records::run_in))]
 pub fn run_in(r: &[u8]) -> Run
     requires long { length r.now ≡ 32 }
     requires left_number { nan_bits binary32 (number r.now 8 4) ≡ false }
@@ -208,7 +284,7 @@ pub fn run_in(r: &[u8]) -> Run
     ensures { result ≡ run_in r.now }
 {
     Run {
-        kind: r[0],
+        kind: RunKind::from(r[0]),
         gear: r[1],
         struck: r[2] == 1,
         left_kind: r[3],
@@ -221,16 +297,16 @@ pub fn run_in(r: &[u8]) -> Run
     }
 }
 
+// The reading of a kind byte and a float, in a record that is known to be good: there a kind that is neither 1 nor 2 is 0, absent.
+#[tactic(auto, unfolding(crate::specs::Records::reading_from))]
 fn reading_from(kind: u8, x: f32) -> Reading
     ensures { result ≡ reading_from kind x }
 {
-    if kind == 1 {
-        return Reading::Level(x);
+    match kind {
+        1 => Reading::Level(x),
+        2 => Reading::Overload(x),
+        _ => Reading::Absent,
     }
-    if kind == 2 {
-        return Reading::Overload(x);
-    }
-    Reading::Absent
 }
 
 impl Run {
@@ -252,10 +328,7 @@ fn readable_at(kind: u8, r: &[u8], at: usize) -> bool
     requires { at + 4 ≤ length r.now }
     ensures { result ≡ readable (reading_of kind (number r.now at 4)) }
 {
-    match level::reading_at(kind, r, at) {
-        Found::Good(_) => true,
-        Found::Broken => false,
-    }
+    level::reading_at(kind, r, at).is_some()
 }
 
 // Whether an acceleration run is at least as fast at BB' as at the start line.
@@ -268,6 +341,7 @@ fn not_slower(r: &[u8]) -> bool
     (r[0] != Record::ACCELERATION) | (start <= end)
 }
 
+#[tactic(auto, unfolding(crate::specs::Records::run_good, crate::specs::Records::run_tests))]
 pub fn run_good(r: &[u8]) -> bool
     ensures { result ≡ run_good r.now }
 {
@@ -297,6 +371,7 @@ pub struct Closing {
     pub backgrounds: Backgrounds,
 }
 
+#[tactic(auto, unfolding(crate::specs::Records::closing_good, crate::specs::Records::closing_tests))]
 pub fn closing_good(r: &[u8]) -> bool
     ensures { result ≡ closing_good r.now }
 {
@@ -310,6 +385,7 @@ pub fn closing_good(r: &[u8]) -> bool
         & blank(r, 8, 32)
 }
 
+#[tactic(auto, unfolding(crate::specs::Records::closing_in))]
 pub fn closing_in(r: &[u8]) -> Closing
     requires { length r.now ≡ 32 }
     ensures { result ≡ closing_in r.now }

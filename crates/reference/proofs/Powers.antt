@@ -10,11 +10,13 @@ use lib.Dec.{T, leb, ltb, lit<, leb→le, le→leb, ltb→lt, lt→ltb}
 use lib.ListN.{length, get_or}
 use lib.Ieee.Fits.{and_i, and_l, and_r}
 use borrow.Author.Tests.{ltb-true, ltb-false}
+use Rattle.std.proofs.lemmas.List.{get_or_default}
+use Rattle.std.proofs.lemmas.List.Sorted.{IsNonDecreasingBy-from_all_adjacent}
 use Rattle.units.specs.Tests.{lowest}
 use Rattle.units.proofs.Table.{every, at}
 use Rattle.units.proofs.Lowest.{lowest_alone}
 use Rattle.reference.specs.Reference.{between}
-use Rattle.reference.specs.Place.{Placed}
+use Rattle.reference.specs.Place.{StartsRise, Placed}
 
 -- ---- the two tests of a definition, as facts
 
@@ -48,6 +50,16 @@ module _ (e from to q : ℕ) where
   lowest_between w N t h = lowest_alone (between e from to q) N t (λ M s. between_unique w M N s t) 400 0 (omega arith) (omega arith)
 
 -- ---- a table of starts
+
+-- the starts rise. The test is computed
+pub rising : (starts : List ℕ) → T (every (λ i s. leb s (get_or starts (i + 1) s)) 0 starts) → StartsRise starts
+unfolding StartsRise
+rising starts t = IsNonDecreasingBy-from_all_adjacent (λ s. s) starts neighbours
+  where
+    neighbours : (k d : ℕ) → k + 1 < length starts → get_or starts k d ≤ get_or starts (k + 1) d
+    neighbours k d h =
+        let below : get_or starts k 0 ≤ get_or starts (k + 1) (get_or starts k 0) = leb→le _ _ (at (λ i s. leb s (get_or starts (i + 1) s)) starts t k (omega arith)) in
+        rw (get_or_default starts k d 0 (omega arith), get_or_default starts (k + 1) d (get_or starts k 0) h) below
 
 -- s is the lowest q of the N that is i + 1 above `below`: it reaches that N's power of ten, and one less does not
 unfoldable pub start : ℕ → ℕ → ℕ → ℕ → ℕ → Bool

@@ -1,5 +1,5 @@
 -- PMR and the two reference accelerations (document 01, "Gears"). q is PMR in tenths; accelerations are in hundredths of m/s².
-use Rattle.std.specs.Prelude.{Bool, cond, ◌&&◌, ℕ, ◌+◌, ◌*◌, ◌^◌, leb, ltb}
+use Rattle.std.specs.Prelude.{Bool, Option, Some, None, cond, ◌&&◌, ◌||◌, ℕ, ◌+◌, ◌*◌, ◌^◌, leb, ltb}
 use Rattle.units.specs.Rounding.{rounded}
 use Rattle.units.specs.Tests.{lowest}
 use Rattle.reference.specs.declared.Reference.{Reference}
@@ -7,6 +7,10 @@ use Rattle.reference.specs.declared.Reference.{Reference}
 -- PMR = 1000 × P / m, P in kW and m in kg, rounded to a tenth: in tenths, from P in tenths of kW
 unfoldable pub pmr_of : ℕ → ℕ → ℕ
 pmr_of power mass = rounded (1000 * power) mass
+
+-- a PMR that has reference accelerations: from 5.0 to 600.0
+unfoldable pub pmr_in_range : ℕ → Option ℕ
+pmr_in_range q = cond (ltb q 50 || ltb 6000 q) None (Some q)
 
 -- 10^(2N + from) ≤ q^e < 10^(2N + to): in whole numbers, that N is a multiple of a logarithm, rounded. For a_urban,
 -- N - 1/2 ≤ 63 log10(q / 10) - 9 < N + 1/2 is 2N + 143 ≤ 126 log10(q) < 2N + 145.

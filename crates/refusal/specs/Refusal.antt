@@ -1,10 +1,8 @@
 -- The number and the place of a refusal, and of an answer (document 01, "Refusals and what remains"; document 02, wishes 1 and 5).
-use Rattle.std.specs.Prelude.{ℕ}
+use Rattle.std.specs.Prelude.{ℕ, Result, Ok, Err}
 use Rattle.refusal.specs.declared.Shortage.{Shortage}
 use Rattle.refusal.specs.declared.Shortage.TheVariants.{TooFew, TooWide}
 use Rattle.refusal.specs.declared.Refusal.{Refusal}
-use Rattle.refusal.specs.declared.Answer.{Answer}
-use Rattle.refusal.specs.declared.Answer.TheVariants.{Accepted, Refused}
 use Rattle.refusal.specs.declared.Refusal.TheVariants.{ShortBuffer, WrongSize, NoVehicle, NoClosing, BrokenRecord, NoLimitForN1, NoLimitEntry, PmrOutOfRange, NoRun, NoWindow, NotFalling, NoRule, NoConstantSpeed}
 
 -- ---- the number
@@ -60,15 +58,24 @@ place_of (NotFalling g) = g
 place_of NoRule = 0
 place_of (NoConstantSpeed g x) = g
 
--- ---- an answer: 0 and 0 for an accepted sheet
+-- ---- an answer: what is given of its refusal, and 0 where there is none
+
+abbrev pub number_in : {T E : Type 0} → (E → ℕ) → Result T E → ℕ
+number_in given (Ok t) = 0
+number_in given (Err e) = given e
+
+-- ---- the answer that the caller gets of an evaluation: 0 and 0 for an accepted sheet
+
+abbrev pub Answer : Type 0
+Answer = Result (Unit {0}) Refusal
 
 abbrev pub answer_number_by : WindowNumbers → Answer → ℕ
-answer_number_by ns Accepted = 0
-answer_number_by ns (Refused r) = number_by ns r
+answer_number_by ns (Ok tt) = 0
+answer_number_by ns (Err r) = number_by ns r
 
 abbrev pub answer_number : Answer → ℕ
 answer_number a = answer_number_by window_numbers a
 
 abbrev pub answer_place : Answer → ℕ
-answer_place Accepted = 0
-answer_place (Refused r) = place_of r
+answer_place (Ok tt) = 0
+answer_place (Err r) = place_of r

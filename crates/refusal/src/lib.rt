@@ -1,11 +1,11 @@
-// The causes of a refusal with their numbers and places, and the answer of an evaluation.
+// The causes of a refusal with their numbers and places, and those of an answer: what the caller gets of an evaluation.
 #![tactic(auto)]
 
-ghost use Rattle.std.specs.Prelude.{◌≡◌};
-ghost use Rattle.refusal.specs.Refusal.{number_of, place_of, answer_number, answer_place};
+ghost use Rattle.std.specs.Prelude.{◌≡◌, ℕ};
+ghost use Rattle.refusal.specs.Refusal.{number_in, number_of, place_of, answer_number, answer_place};
 
 // Why the runs of a gear and a run kind have no window.
-#[derive(Clone, Copy)]
+#[derive(Clone, Copy, Debug, PartialEq, Eq)]
 pub enum Shortage {
     // fewer than four valid runs
     TooFew,
@@ -14,7 +14,7 @@ pub enum Shortage {
 }
 
 // The causes of a refusal, in the order in which they are checked.
-#[derive(Clone, Copy)]
+#[derive(Clone, Copy, Debug, PartialEq, Eq)]
 pub enum Refusal {
     // 1: the result buffer has less than 32 bytes
     ShortBuffer,
@@ -44,77 +44,79 @@ pub enum Refusal {
     NoConstantSpeed(u8, Shortage),
 }
 
-// What the caller gets of an evaluation.
-#[derive(Clone, Copy)]
-pub enum Answer {
-    Accepted,
-    Refused(Refusal),
+// A refusal with the number that the papers give it, and its place.
+pub trait Numbered {
+    ghost number: { Self → ℕ };
+
+    ghost place: { Self → ℕ };
+
+    fn number(self) -> u8
+        ensures { result ≡ number self };
+
+    fn place(self) -> usize
+        ensures { result ≡ place self };
 }
 
-// The number of a refusal.
-pub fn number(r: Refusal) -> u8
-    ensures { result ≡ number_of r }
-{
-    match r {
-        Refusal::ShortBuffer => 1,
-        Refusal::WrongSize => 2,
-        Refusal::NoVehicle => 3,
-        Refusal::NoClosing(_) => 4,
-        Refusal::BrokenRecord(_) => 5,
-        Refusal::NoLimitForN1 => 11,
-        Refusal::NoLimitEntry => 12,
-        Refusal::PmrOutOfRange => 6,
-        Refusal::NoRun => 7,
-        Refusal::NoWindow(_, shortage) => match shortage {
-            Shortage::TooFew => 7,
-            Shortage::TooWide => 14,
-        },
-        Refusal::NotFalling(_) => 8,
-        Refusal::NoRule => 9,
-        Refusal::NoConstantSpeed(_, shortage) => match shortage {
-            Shortage::TooFew => 10,
-            Shortage::TooWide => 15,
-        },
+impl Numbered for Refusal {
+    ghost number = { number_of };
+
+    ghost place = { place_of };
+
+    // Its number.
+    fn number(self) -> u8 {
+        match self {
+            Refusal::ShortBuffer => 1,
+            Refusal::WrongSize => 2,
+            Refusal::NoVehicle => 3,
+            Refusal::NoClosing(_) => 4,
+            Refusal::BrokenRecord(_) => 5,
+            Refusal::NoLimitForN1 => 11,
+            Refusal::NoLimitEntry => 12,
+            Refusal::PmrOutOfRange => 6,
+            Refusal::NoRun => 7,
+            Refusal::NoWindow(_, Shortage::TooFew) => 7,
+            Refusal::NoWindow(_, Shortage::TooWide) => 14,
+            Refusal::NotFalling(_) => 8,
+            Refusal::NoRule => 9,
+            Refusal::NoConstantSpeed(_, Shortage::TooFew) => 10,
+            Refusal::NoConstantSpeed(_, Shortage::TooWide) => 15,
+        }
+    }
+
+    // Its place: a record, a gear, or 0.
+    fn place(self) -> usize {
+        match self {
+            Refusal::NoClosing(n) | Refusal::BrokenRecord(n) => n,
+            Refusal::NoWindow(g, _) | Refusal::NotFalling(g) | Refusal::NoConstantSpeed(g, _) =>
+                g as usize,
+            Refusal::ShortBuffer
+            | Refusal::WrongSize
+            | Refusal::NoVehicle
+            | Refusal::NoLimitForN1
+            | Refusal::NoLimitEntry
+            | Refusal::PmrOutOfRange
+            | Refusal::NoRule
+            | Refusal::NoRun => 0,
+        }
     }
 }
 
-// Its place: a record, a gear, or 0.
-pub fn place(r: Refusal) -> usize
-    ensures { result ≡ place_of r }
+// The number of an answer: that of its refusal, and 0 on success.
+pub fn answer_number<T: Drop, E: Numbered>(answer: Result<T, E>) -> u8
+    ensures { result ≡ number_in E.number answer }
 {
-    match r {
-        Refusal::ShortBuffer => 0,
-        Refusal::WrongSize => 0,
-        Refusal::NoVehicle => 0,
-        Refusal::NoClosing(n) => n,
-        Refusal::BrokenRecord(n) => n,
-        Refusal::NoLimitForN1 => 0,
-        Refusal::NoLimitEntry => 0,
-        Refusal::PmrOutOfRange => 0,
-        Refusal::NoRun => 0,
-        Refusal::NoWindow(g, _) => g as usize,
-        Refusal::NotFalling(g) => g as usize,
-        Refusal::NoRule => 0,
-        Refusal::NoConstantSpeed(g, _) => g as usize,
+    match answer {
+        Ok(_) => 0,
+        Err(e) => e.number(),
     }
 }
 
-// The number of an answer: 0 on success.
-pub fn answer_number(a: Answer) -> u8
-    ensures { result ≡ answer_number a }
+// Its place, and 0 on success.
+pub fn answer_place<T: Drop, E: Numbered>(answer: Result<T, E>) -> usize
+    ensures { result ≡ number_in E.place answer }
 {
-    match a {
-        Answer::Accepted => 0,
-        Answer::Refused(r) => number(r),
-    }
-}
-
-// The place of an answer: 0 on success.
-pub fn answer_place(a: Answer) -> usize
-    ensures { result ≡ answer_place a }
-{
-    match a {
-        Answer::Accepted => 0,
-        Answer::Refused(r) => place(r),
+    match answer {
+        Ok(_) => 0,
+        Err(e) => e.place(),
     }
 }

@@ -2,56 +2,44 @@
 #![tactic(auto)]
 
 ghost use Rattle.std.specs.Prelude.{◌≡◌, ◌++◌, ◌≤◌, length, drop};
-ghost use Rattle.urban.specs.Urban.{flag};
-ghost use Rattle.result.specs.Result.{low_byte, high_byte, result_bytes, outcome_in};
+ghost use Rattle.result.specs.Result.{result_bytes, outcome_in};
 
 use units::{Hundredths, Tenths};
 use urban::Outcome;
 
-// The two bytes of a 16-bit number.
-fn low(n: u16) -> u8
-    ensures { result ≡ low_byte n }
-{
-    (n % 256) as u8
-}
-
-fn high(n: u16) -> u8
-    ensures { result ≡ high_byte n }
-{
-    (n / 256) as u8
-}
-
-fn flag_of(pass: bool) -> u8
-    ensures { result ≡ flag pass }
-{
-    if pass { 1 } else { 0 }
-}
-
 // The 32 bytes of the result record.
+#[tactic(auto, unfolding(crate::specs::Result::result_bytes))]
 fn result_bytes(o: Outcome) -> [u8; 32]
     ensures { result ≡ result_bytes o }
 {
+    let w = o.w.0.to_le_bytes();
+    let c = o.c.0.to_le_bytes();
+    let l_urban = o.l_urban.to_le_bytes();
+    let a_urban = o.a_urban.0.to_le_bytes();
+    let a_ref = o.a_ref.0.to_le_bytes();
+    let pmr = o.pmr.to_le_bytes();
+    let a = o.a.0.to_le_bytes();
     [
         o.rule,
         o.i,
         o.j,
         o.k,
         o.kp,
-        flag_of(o.pass),
-        low(o.w.0),
-        high(o.w.0),
-        low(o.c.0),
-        high(o.c.0),
-        low(o.l_urban),
-        high(o.l_urban),
-        low(o.a_urban.0),
-        high(o.a_urban.0),
-        low(o.a_ref.0),
-        high(o.a_ref.0),
-        low(o.pmr),
-        high(o.pmr),
-        low(o.a.0),
-        high(o.a.0),
+        u8::from(o.pass),
+        w[0],
+        w[1],
+        c[0],
+        c[1],
+        l_urban[0],
+        l_urban[1],
+        a_urban[0],
+        a_urban[1],
+        a_ref[0],
+        a_ref[1],
+        pmr[0],
+        pmr[1],
+        a[0],
+        a[1],
         0,
         0,
         0,
@@ -72,15 +60,11 @@ pub fn write(outcome: Outcome, res: &mut [u8])
     requires { 32 ≤ length res.old }
     ensures { res.new ≡ result_bytes outcome ++ drop 32 res.old }
 {
-    let bytes = result_bytes(outcome);
-    let mut n = 0;
-    while n < 32 {
-        res[n] = bytes[n];
-        n += 1;
-    }
+    res[..32].copy_from_slice(&result_bytes(outcome));
 }
 
 // The fields of the result record at the front of `bytes`.
+#[tactic(auto, unfolding(crate::specs::Result::outcome_in))]
 pub fn read_back(bytes: &[u8]) -> Outcome
     requires { 32 ≤ length bytes.now }
     ensures { result ≡ outcome_in bytes.now }

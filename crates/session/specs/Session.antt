@@ -1,23 +1,22 @@
 -- The gears of a session (document 01, row 7 of the refusals, and "Gears"; document 02, wish 5): which have no window and why, which are dropped, and
 -- which remain, each with its acceleration and its acceleration window.
-use Rattle.std.specs.Prelude.{Bool, true, false, cond, ◌&&◌, List, [], ◌∷◌, ◌++◌, map, ℕ, zero, suc, ◌+◌, ◌-◌, leb, ltb, length, take, replicate}
+use Rattle.std.specs.Prelude.{Bool, true, false, cond, ◌&&◌, Option, Some, None, Result, Ok, Err, List, [], ◌∷◌, map, ℕ, zero, suc, ◌+◌, leb, ltb, length}
 use Rattle.units.specs.Tests.{lowest}
 use Rattle.refusal.specs.declared.Shortage.{Shortage}
+use Rattle.record.specs.declared.RunKind.{RunKind}
+use Rattle.record.specs.declared.RunKind.TheVariants.{Acceleration}
 use Rattle.sheet.specs.Sheet.{has_acceleration}
 use Rattle.window.specs.declared.Four.{Four}
-use Rattle.window.specs.declared.Window.{Window}
-use Rattle.window.specs.declared.Window.TheVariants as window
-use Rattle.window.specs.Windows.{shortage_of, empty_four}
+use Rattle.window.specs.Windows.{shortage_of}
 use Rattle.valid_runs.specs.declared.Condition.{Condition}
 use Rattle.valid_runs.specs.ValidRuns.{rest_of, window_of}
 use Rattle.gears.specs.declared.Gear.{Gear}
 use Rattle.gears.specs.Acceleration.{acceleration_of, mean_of}
-use Rattle.gears.specs.Rules.{empty_gear}
 use Rattle.session.specs.declared.Track.{Track}
+use Rattle.session.specs.declared.Entry.{Entry}
 use Rattle.session.specs.declared.State.{State}
 use Rattle.session.specs.declared.State.TheVariants.{Remains, Dropped, NoWindow, NoRun}
 use Rattle.session.specs.declared.WithoutWindow.{WithoutWindow}
-use Rattle.session.specs.declared.WithoutWindow.TheVariants as without
 use Rattle.session.specs.declared.Table.{Table}
 
 -- what the evaluation goes by: the bytes of the sheet, and the track, with backgrounds, S and path
@@ -29,15 +28,15 @@ abbrev pub session_of : List ℕ → Track → Session
 session_of s track = record { sheet = s; track = track }
 
 -- a gear and a run kind over the track's backgrounds
-abbrev pub condition_of : Track → ℕ → ℕ → Condition
+abbrev pub condition_of : Track → RunKind → ℕ → Condition
 condition_of track kind gear = record { backgrounds = track.backgrounds; kind = kind; gear = gear }
 
 -- the window of a run kind and a gear
-abbrev pub window_in : Session → ℕ → ℕ → Window
+abbrev pub window_in : Session → RunKind → ℕ → Result Four Shortage
 window_in t kind gear = window_of t.sheet (condition_of t.track kind gear)
 
 -- why they have no window, if they have none: by the number of their valid runs
-abbrev pub shortage_in : Session → ℕ → ℕ → Shortage
+abbrev pub shortage_in : Session → RunKind → ℕ → Shortage
 shortage_in t kind gear = shortage_of (length (rest_of t.sheet (condition_of t.track kind gear)))
 
 -- ---- what becomes of a gear
@@ -53,20 +52,20 @@ gear_acceleration path f =
     (acceleration_of f.c.start f.c.end path) (acceleration_of f.d.start f.d.end path)
 
 -- a gear with an acceleration run, by its acceleration window: dropped if a run of it has an engine speed above S
-unfoldable pub by_window : Track → ℕ → Window → State
-by_window track gear (window.Nothing shortage) = NoWindow shortage
-by_window track gear (window.Runs f) =
-    cond (slow_enough track.rated f) (Remains (record { number = gear; acceleration = record { 0 = gear_acceleration track.path f } }) f) Dropped
+unfoldable pub by_window : Track → ℕ → Result Four Shortage → State
+by_window track gear (Err shortage) = NoWindow shortage
+by_window track gear (Ok f) =
+    cond (slow_enough track.rated f) (Remains (record { gear = record { number = gear; acceleration = record { 0 = gear_acceleration track.path f } }; window = f })) Dropped
 
--- what becomes of a gear: by its acceleration window, of kind 2, if it has an acceleration run
+-- what becomes of a gear: by its acceleration window, if it has an acceleration run
 unfoldable pub state_of : Session → ℕ → State
-state_of t gear = cond (has_acceleration t.sheet gear) (by_window t.track gear (window_in t 2 gear)) NoRun
+state_of t gear = cond (has_acceleration t.sheet gear) (by_window t.track gear (window_in t Acceleration gear)) NoRun
 
 -- ---- row 7
 
 -- it has an acceleration run and no window
 abbrev pub has_no_window : State → Bool
-has_no_window (Remains g f) = false
+has_no_window (Remains e) = false
 has_no_window Dropped = false
 has_no_window (NoWindow shortage) = true
 has_no_window NoRun = false
@@ -76,20 +75,15 @@ unfoldable pub lowest_no_window : Session → ℕ
 lowest_no_window t = lowest (λ p. has_no_window (state_of t (p + 1))) 16 0
 
 -- that gear with its own shortage, by which row 7 is numbered 7 or 14
-unfoldable pub without_window : Session → WithoutWindow
+unfoldable pub without_window : Session → Option WithoutWindow
 without_window t =
     let gear = lowest_no_window t + 1 in
-    cond (ltb (lowest_no_window t) 16) (without.Gear gear (shortage_in t 2 gear)) without.NoGear
+    cond (ltb (lowest_no_window t) 16) (Some (record { gear = gear; shortage = shortage_in t Acceleration gear })) None
 
 -- ---- the gears that remain
 
--- a gear that remains, and its acceleration window
-pub record Entry : Type 0 where
-  pub gear : Gear
-  pub window : Four
-
 abbrev pub with_remaining : State → List Entry → List Entry
-with_remaining (Remains g f) entries = record { gear = g; window = f } ∷ entries
+with_remaining (Remains e) entries = e ∷ entries
 with_remaining Dropped entries = entries
 with_remaining (NoWindow shortage) entries = entries
 with_remaining NoRun entries = entries
@@ -110,27 +104,13 @@ windows_of t = map (λ (e : Entry). e.window) (remaining t)
 
 -- ---- the table of a session
 
--- an array of 16 with a list at its front, and the filler behind it
-abbrev pub stored : {A : Type 0} → A → List A → List A
-stored filler xs = xs ++ replicate (16 - length xs) filler
-
 -- those that remain below the lowest gear with an acceleration run and no window: all that remain, if there is none such
 unfoldable pub entries_of : Session → List Entry
 entries_of t = remaining_from t 0 (lowest_no_window t)
 
--- the table: these gears and their acceleration windows, how many they are, and the lowest gear that has no window
-unfoldable pub table_of : Session → Table
-table_of t =
-    record {
-      gears = stored empty_gear (map (λ (e : Entry). e.gear) (entries_of t));
-      windows = stored empty_four (map (λ (e : Entry). e.window) (entries_of t));
-      count = length (entries_of t);
-      without_window = without_window t;
-    }
-
--- the gears and the windows of a table: the first `count` of each array
+-- the gears and the windows of a table
 abbrev pub gears_in : Table → List Gear
-gears_in r = take r.count r.gears
+gears_in r = map (λ (e : Entry). e.gear) r.entries.items
 
 abbrev pub windows_in : Table → List Four
-windows_in r = take r.count r.windows
+windows_in r = map (λ (e : Entry). e.window) r.entries.items

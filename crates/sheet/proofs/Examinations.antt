@@ -11,11 +11,11 @@ use Rattle.units.proofs.Lowest.{found}
 use Rattle.units.proofs.Tests.{by_test, neither}
 use Rattle.refusal.specs.declared.Refusal.TheVariants.{WrongSize, NoVehicle, NoClosing, BrokenRecord}
 use Rattle.record.specs.declared.Vehicle.{Vehicle}
-use Rattle.record.specs.declared.Closing.{Closing}
 use Rattle.record.specs.Records.{records, record_at, byte, word, vehicle_good, vehicle_in, run_good, closing_good, closing_in}
 use Rattle.record.proofs.VehicleRanges.{vehicle_ranges}
-use Rattle.sheet.specs.declared.Examination.{Examination}
-use Rattle.sheet.specs.declared.Examination.TheVariants.{Whole, Refused}
+use Rattle.refusal.specs.declared.Refusal.{Refusal}
+use Rattle.std.specs.Prelude.{Result, Ok, Err}
+use Rattle.sheet.specs.declared.Whole.{Whole}
 use Rattle.sheet.specs.Sheet.{last_of, wrong_size, no_vehicle, no_closing, Layouts, good_by, lowest_broken_by, examined_by, layouts, lowest_broken, examined, RunsGood}
 
 -- ---- the size
@@ -55,23 +55,23 @@ module _ (y : Layouts) (s : List ℕ) (i : ℕ) where
 -- ---- the rows, each with no earlier cause
 
 module _ (y : Layouts) (s : List ℕ) where
-  pub row_2 : wrong_size s ≡ true → examined_by y s ≡ Refused WrongSize
+  pub row_2 : wrong_size s ≡ true → examined_by y s ≡ Err WrongSize
   unfolding examined_by
   row_2 a = simp a
 
-  pub row_3 : wrong_size s ≡ false → no_vehicle s ≡ true → examined_by y s ≡ Refused NoVehicle
+  pub row_3 : wrong_size s ≡ false → no_vehicle s ≡ true → examined_by y s ≡ Err NoVehicle
   unfolding examined_by
   row_3 a b = simp (a, b)
 
-  pub row_4 : wrong_size s ≡ false → no_vehicle s ≡ false → no_closing s ≡ true → examined_by y s ≡ Refused (NoClosing (last_of s))
+  pub row_4 : wrong_size s ≡ false → no_vehicle s ≡ false → no_closing s ≡ true → examined_by y s ≡ Err (NoClosing (last_of s))
   unfolding examined_by
   row_4 a b d = simp (a, b, d)
 
-  pub row_5 : wrong_size s ≡ false → no_vehicle s ≡ false → no_closing s ≡ false → lowest_broken_by y s < records s → examined_by y s ≡ Refused (BrokenRecord (lowest_broken_by y s))
+  pub row_5 : wrong_size s ≡ false → no_vehicle s ≡ false → no_closing s ≡ false → lowest_broken_by y s < records s → examined_by y s ≡ Err (BrokenRecord (lowest_broken_by y s))
   unfolding examined_by
   row_5 a b d e = simp (a, b, d, lt-ltb (lowest_broken_by y s) (records s) e)
 
-  pub no_row : wrong_size s ≡ false → no_vehicle s ≡ false → no_closing s ≡ false → records s ≤ lowest_broken_by y s → examined_by y s ≡ Whole (vehicle_in (record_at s 0)) (closing_in (record_at s (last_of s)))
+  pub no_row : wrong_size s ≡ false → no_vehicle s ≡ false → no_closing s ≡ false → records s ≤ lowest_broken_by y s → examined_by y s ≡ Ok (record { vehicle = vehicle_in (record_at s 0); closing = closing_in (record_at s (last_of s)) })
   unfolding examined_by
   no_row a b d e = simp (a, b, d, le-ltb (lowest_broken_by y s) (records s) e)
 
@@ -90,63 +90,65 @@ closed s e =
     let second = (neither (not (eqb (byte r 0) 9)) (not (eqb (word r 2 + 2) (records s))) e).1 in
     eqb-true (word r 2 + 2) (records s) (not-false (eqb (word r 2 + 2) (records s)) second)
 
-pub record WholeSheet (s : List ℕ) (v : Vehicle) (z : Closing) : Type 0 where
+pub record WholeSheet (s : List ℕ) (w : Whole) : Type 0 where
   pub size : Sized s
   pub two : 2 ≤ records s
   pub vehicle : vehicle_good (record_at s 0) ≡ true
-  pub vehicle_is : v ≡ vehicle_in (record_at s 0)
+  pub vehicle_is : w.vehicle ≡ vehicle_in (record_at s 0)
   pub closing : closing_good (record_at s (last_of s)) ≡ true
-  pub closing_is : z ≡ closing_in (record_at s (last_of s))
-  pub counted : z.runs + 2 ≡ records s
+  pub closing_is : w.closing ≡ closing_in (record_at s (last_of s))
+  pub counted : w.closing.runs + 2 ≡ records s
   pub runs : (i : ℕ) → 0 < i → i < last_of s → run_good (record_at s i) ≡ true
 
-module _ (s : List ℕ) (v : Vehicle) (z : Closing) where
-  built : wrong_size s ≡ false → no_closing s ≡ false → records s ≤ lowest_broken s → Whole (vehicle_in (record_at s 0)) (closing_in (record_at s (last_of s))) ≡ Whole v z → WholeSheet s v z
+module _ (s : List ℕ) (w : Whole) where
+  built : wrong_size s ≡ false → no_closing s ≡ false → records s ≤ lowest_broken s → ◌≡◌ {A = Result Whole Refusal} (Ok (record { vehicle = vehicle_in (record_at s 0); closing = closing_in (record_at s (last_of s)) })) (Ok w) → WholeSheet s w
   unfolding closing_in
   built a d e k =
       let size = sized s a in
       let counted = closed s d in
       let good = all_good layouts s e in
-      let same : z ≡ closing_in (record_at s (last_of s)) = cc in
+      let same : w ≡ record { vehicle = vehicle_in (record_at s 0); closing = closing_in (record_at s (last_of s)) } = cc in
       record {
         size = size;
         two = omega arith;
         vehicle = sym (at_first_place layouts s 0 refl) ∙ good 0 size.not_empty;
-        vehicle_is = cc;
+        vehicle_is = ap (λ (x : Whole). x.vehicle) same;
         closing = sym (at_last_place layouts s (last_of s) (omega arith) refl) ∙ good (last_of s) (omega arith);
-        closing_is = same;
-        counted = ap (λ (x : Closing). x.runs + 2) same ∙ counted;
+        closing_is = ap (λ (x : Whole). x.closing) same;
+        counted = ap (λ (x : Whole). x.closing.runs + 2) same ∙ counted;
         runs = λ i l m. sym (at_middle_place layouts s i (omega arith) (omega arith)) ∙ good i (omega arith);
       }
 
-  pub whole : examined s ≡ Whole v z → WholeSheet s v z
+  pub whole : examined s ≡ Ok w → WholeSheet s w
   unfolding examined_by
   whole =
-      by_test Then (wrong_size s) _ _ (λ a k. absurd (let y : ◌≡◌ {A = ℕ} 0 1 = cc in omega arith))
-      (λ a. by_test Then (no_vehicle s) _ _ (λ b k. absurd (let y : ◌≡◌ {A = ℕ} 0 1 = cc in omega arith))
-      (λ b. by_test Then (no_closing s) _ _ (λ d k. absurd (let y : ◌≡◌ {A = ℕ} 0 1 = cc in omega arith))
-      (λ d. by_test Then (ltb (lowest_broken s) (records s)) _ _ (λ e k. absurd (let y : ◌≡◌ {A = ℕ} 0 1 = cc in omega arith))
+      by_test Then (wrong_size s) _ _ (λ a k. cc)
+      (λ a. by_test Then (no_vehicle s) _ _ (λ b k. cc)
+      (λ b. by_test Then (no_closing s) _ _ (λ d k. cc)
+      (λ d. by_test Then (ltb (lowest_broken s) (records s)) _ _ (λ e k. cc)
       (λ e. built a d (ltb-false (lowest_broken s) (records s) e)))))
     where
-      Then : Examination → Type 0
-      Then e = e ≡ Whole v z → WholeSheet s v z
+      Then : Result Whole Refusal → Type 0
+      Then e = e ≡ Ok w → WholeSheet s w
 
 -- ---- what a whole sheet gives
 
-module _ (s : List ℕ) (v : Vehicle) (z : Closing) (e : examined s ≡ Whole v z) where
-  w : WholeSheet s v z
-  w = whole s v z e
+module _ (s : List ℕ) (w : Whole) (e : examined s ≡ Ok w) where
+  found_whole : WholeSheet s w
+  found_whole = whole s w e
 
   pub runs_good : RunsGood s
-  runs_good = record { two = w.two; few = w.size.few; good = λ n l m. w.runs n l (omega arith) }
+  runs_good =
+      let f = found_whole in
+      record { two = f.two; few = f.size.few; good = λ n l m. f.runs n l (omega arith) }
 
-  pub mass_positive : 0 < v.mass
+  pub mass_positive : 0 < w.vehicle.mass
   unfolding vehicle_in
-  mass_positive = omega (arith, ap (λ (x : Vehicle). x.mass) w.vehicle_is, (vehicle_ranges (record_at s 0) w.vehicle).mass.0)
+  mass_positive = let f = found_whole in omega (arith, ap (λ (x : Vehicle). x.mass) f.vehicle_is, (vehicle_ranges (record_at s 0) f.vehicle).mass.0)
 
-  pub length_range : (100 ≤ v.length) × (v.length ≤ 2000)
+  pub length_range : (100 ≤ w.vehicle.length) × (w.vehicle.length ≤ 2000)
   unfolding vehicle_in
   length_range =
-      let same = ap (λ (x : Vehicle). x.length) w.vehicle_is in
-      let r = (vehicle_ranges (record_at s 0) w.vehicle).«length» in
+      let same = ap (λ (x : Vehicle). x.length) found_whole.vehicle_is in
+      let r = (vehicle_ranges (record_at s 0) found_whole.vehicle).«length» in
       (omega arith, omega arith)

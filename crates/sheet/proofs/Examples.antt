@@ -13,8 +13,9 @@ use Rattle.units.specs.Tests.{lowest, all_of}
 use Rattle.refusal.specs.Refusal.{number_of, place_of}
 use Rattle.level.specs.Reading.{in_range, reading_of}
 use Rattle.record.specs.Records.{records, record_at, zeros, vehicle_tests, vehicle_good, run_tests, run_good, closing_tests, closing_good}
-use Rattle.sheet.specs.declared.Examination.{Examination}
-use Rattle.sheet.specs.declared.Examination.TheVariants.{Whole, Refused}
+use Rattle.refusal.specs.declared.Refusal.{Refusal}
+use Rattle.std.specs.Prelude.{Result, Ok, Err}
+use Rattle.sheet.specs.declared.Whole.{Whole}
 use Rattle.sheet.specs.Sheet.{wrong_size, no_vehicle, no_closing, good_by, lowest_broken_by, examined_by, examined}
 
 -- an outcome as one number: the refusal's number and its place
@@ -24,9 +25,9 @@ refusal n place = 2048 * n + place
 good : ℕ
 good = 0
 
-outcome : Examination → ℕ
-outcome (Whole v z) = good
-outcome (Refused r) = refusal (number_of r) (place_of r)
+outcome : Result Whole Refusal → ℕ
+outcome (Ok whole) = good
+outcome (Err r) = refusal (number_of r) (place_of r)
 
 -- P 100.0 kW, m 1,500 kg, length 450 cm, S 6,000, background 40.0, limit 72
 vehicle : List ℕ

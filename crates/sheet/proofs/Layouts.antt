@@ -11,7 +11,7 @@ use Rattle.units.proofs.Lowest.{lowest_same}
 use Rattle.refusal.specs.declared.Refusal.{Refusal}
 use Rattle.refusal.specs.declared.Refusal.TheVariants.{WrongSize, NoVehicle, NoClosing, BrokenRecord}
 use Rattle.record.specs.Records.{records, record_at, byte, word, vehicle_good, closing_good}
-use Rattle.sheet.specs.declared.Examination.TheVariants.{Refused}
+use Rattle.std.specs.Prelude.{Err}
 use Rattle.sheet.specs.Sheet.{last_of, wrong_size, no_vehicle, no_closing, Layouts, good_by, lowest_broken_by, examined_by, layouts, examined}
 use Rattle.sheet.proofs.Examinations.{sized, at_first_place, at_last_place, at_middle_place, row_2, row_3, row_4, row_5, all_good, closed}
 
@@ -62,8 +62,8 @@ module _ (y y' : Layouts) (s : List ℕ) where
 
 -- By it, a record breaks the layout; or the same refusal is given, or the two records pass and the same is found.
 pub data ByNarrower (y : Layouts) (s : List ℕ) : Type 0 where
-  broken : (n : ℕ) → examined_by y s ≡ Refused (BrokenRecord n) → ByNarrower y s
-  refused : (r : Refusal) → examined_by y s ≡ Refused r → examined s ≡ Refused r → ByNarrower y s
+  broken : (n : ℕ) → examined_by y s ≡ Err (BrokenRecord n) → ByNarrower y s
+  refused : (r : Refusal) → examined_by y s ≡ Err r → examined s ≡ Err r → ByNarrower y s
   passed : y.vehicle (record_at s 0) ≡ true → y.closing (record_at s (last_of s)) ≡ true → examined_by y s ≡ examined s → ByNarrower y s
 
 pub by_narrower : (y : Layouts) (s : List ℕ) → ((r : List ℕ) → y.vehicle r ≡ true → vehicle_good r ≡ true) → ((r : List ℕ) → y.closing r ≡ true → closing_good r ≡ true) → ByNarrower y s

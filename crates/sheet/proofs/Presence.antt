@@ -1,19 +1,34 @@
 -- Which gears have an acceleration run, record by record. Assumes nothing.
-use mathlib.Core.Path.{◌≡◌, refl, sym, ap, ◌∙◌}
+use mathlib.Core.Path.{◌≡◌, refl, sym, ap, ap₂, ◌∙◌}
 use mathlib.Core.Bool.{Bool, true, false, ◌&&◌, ◌||◌, or-false}
 use mathlib.Core.List.{List}
 use Prim.Native.Nat.{ℕ, ◌+◌, ◌-◌, ◌≤◌, ◌<◌}
 use native.Mathlib.Nat.{zero-add}
 use native.Mathlib.Omega.{arith}
-use lib.Dec.{eqb}
+use lib.Dec.{eqb, ltb}
 use lib.ListN.{length, get_or, set}
 use lib.Seq.{get_or-set_same, get_or-set_other, ext_get_or}
 use borrow.Author.Tests.{eqb-true, eqb-false}
-use Rattle.units.specs.Tests.{some}
-use Rattle.units.proofs.Some.{some_here, some_next, some_end}
+use Rattle.std.specs.Prelude.{is_some}
+use Rattle.units.specs.Tests.{lowest, below, some}
+use Rattle.units.proofs.Some.{some_here, some_next, some_end, some-lowest}
 use Rattle.units.proofs.Tests.{marks_long, marks_at}
-use Rattle.record.specs.Records.{record_at, byte}
-use Rattle.sheet.specs.Sheet.{has_byte, accelerates, has_acceleration, present_of}
+use Rattle.record.specs.Records.{records, record_at, byte}
+use Rattle.record.proofs.Layouts.{run_ranges}
+use Rattle.sheet.specs.Sheet.{RunsGood, has_byte, accelerates, any_acceleration, has_acceleration, present_of}
+use Rattle.units.proofs.Below.{is_some_below}
+
+-- a search for the byte of an acceleration run tells whether there is one
+pub any_found : (s : List ℕ) (kind : ℕ) → 2 ≤ records s → kind ≡ 2 → is_some (below (records s - 1) (lowest (has_byte s 0 kind) (records s - 1 - 1) 1)) ≡ any_acceleration s
+unfolding any_acceleration
+any_found s kind two e =
+    let runs : records s - 1 - 1 ≡ records s - 2 = omega arith in
+    let end : records s - 1 ≡ 1 + (records s - 2) = omega arith in
+    is_some_below (records s - 1) _ ∙ ap₂ ltb (ap₂ (λ (k n : ℕ). lowest (has_byte s 0 k) n 1) e runs) end ∙ some-lowest (accelerates s) (records s - 2) 1
+
+-- a gear that a run has is at most 16
+pub gear_below : (s : List ℕ) (i : ℕ) → RunsGood s → 1 ≤ i → i < records s - 1 → byte (record_at s i) 1 < 17
+gear_below s i good h l = let r = run_ranges (record_at s i) (good.good i h (omega arith)) in omega (arith, r.gear.1)
 
 module _ (s : List ℕ) (end : ℕ) where
   -- record n is an acceleration run of the gear

@@ -1,11 +1,11 @@
 -- A byte string as a sheet (document 01, "Refusals and what remains"): rows 2 to 5 of the refusals, in their order, and what row 7 asks of the run
 -- records.
-use Rattle.std.specs.Prelude.{◌≡◌, Bool, true, cond, not, ◌&&◌, ◌||◌, List, ℕ, ◌+◌, ◌-◌, ◌%◌, ◌≤◌, ◌<◌, ltb, eqb, length}
+use Rattle.std.specs.Prelude.{◌≡◌, Bool, true, cond, not, Result, Ok, Err, ◌&&◌, ◌||◌, List, ℕ, ◌+◌, ◌-◌, ◌%◌, ◌≤◌, ◌<◌, ltb, eqb, length}
 use Rattle.units.specs.Tests.{lowest, some, marks}
+use Rattle.refusal.specs.declared.Refusal.{Refusal}
 use Rattle.refusal.specs.declared.Refusal.TheVariants.{WrongSize, NoVehicle, NoClosing, BrokenRecord}
 use Rattle.record.specs.Records.{records, record_at, byte, word, vehicle_good, vehicle_in, run_good, closing_good, closing_in}
-use Rattle.sheet.specs.declared.Examination.{Examination}
-use Rattle.sheet.specs.declared.Examination.TheVariants.{Whole, Refused}
+use Rattle.sheet.specs.declared.Whole.{Whole}
 
 -- the number of the last record
 abbrev pub last_of : List ℕ → ℕ
@@ -38,13 +38,13 @@ unfoldable pub lowest_broken_by : Layouts → List ℕ → ℕ
 lowest_broken_by y s = lowest (λ i. not (good_by y s i)) (records s) 0
 
 -- The first cause that holds, with its place: refusal 2, 3, 4 at the last record, 5 at the lowest broken one. Else the sheet is whole.
-unfoldable pub examined_by : Layouts → List ℕ → Examination
+unfoldable pub examined_by : Layouts → List ℕ → Result Whole Refusal
 examined_by y s =
-    cond (wrong_size s) (Refused WrongSize)
-    (cond (no_vehicle s) (Refused NoVehicle)
-    (cond (no_closing s) (Refused (NoClosing (last_of s)))
-    (cond (ltb (lowest_broken_by y s) (records s)) (Refused (BrokenRecord (lowest_broken_by y s)))
-    (Whole (vehicle_in (record_at s 0)) (closing_in (record_at s (last_of s)))))))
+    cond (wrong_size s) (Err WrongSize)
+    (cond (no_vehicle s) (Err NoVehicle)
+    (cond (no_closing s) (Err (NoClosing (last_of s)))
+    (cond (ltb (lowest_broken_by y s) (records s)) (Err (BrokenRecord (lowest_broken_by y s)))
+    (Ok (record { vehicle = vehicle_in (record_at s 0); closing = closing_in (record_at s (last_of s)) })))))
 
 -- by the layouts of `record/specs/Records`
 abbrev pub layouts : Layouts
@@ -56,7 +56,7 @@ good_at s i = good_by layouts s i
 abbrev pub lowest_broken : List ℕ → ℕ
 lowest_broken s = lowest_broken_by layouts s
 
-abbrev pub examined : List ℕ → Examination
+abbrev pub examined : List ℕ → Result Whole Refusal
 examined s = examined_by layouts s
 
 -- ---- the run records of a whole sheet

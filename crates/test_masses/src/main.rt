@@ -3,7 +3,8 @@
 // own unladen mass in kg, which is not read for two axles.
 #![tactic(auto)]
 
-use lorry::{Loading, TwoAxles};
+use lorry::{Masses, RearOverloaded, TwoAxles};
+use refusal::Numbered;
 use std::fs::File;
 use std::io;
 use std::io::Read;
@@ -11,22 +12,21 @@ use std::io::Read;
 const SIZE: usize = 12;
 
 // The four masses in ten-thousandths of a kg, or the number and the place of the refusal.
-fn print_loading(rt: &impl Print, loading: Loading) -> io::Result<()> {
-    if let Loading::Reckoned(given) = loading {
-        let mass = given.mass.0;
-        let load = given.load.0;
-        let lowest = given.lowest.0;
-        let highest = given.highest.0;
-        println!(rt; "OK {mass} {load} {lowest} {highest}")
-    } else {
-        let number = loading.number();
-        let place = loading.place();
-        println!(rt; "REFUSED {number} {place}")
+fn print_loading(rt: &impl Print, loading: Result<Masses, RearOverloaded>) -> io::Result<()> {
+    match loading {
+        Ok(given) => {
+            let mass = given.mass.0;
+            let load = given.load.0;
+            let lowest = given.lowest.0;
+            let highest = given.highest.0;
+            println!(rt; "OK {mass} {load} {lowest} {highest}")
+        }
+        Err(refusal) => println!(rt; "REFUSED {} {}", refusal.number(), refusal.place()),
     }
 }
 
 // The test mass of the lorry in these bytes.
-fn loading_in(bytes: &[u8; SIZE]) -> Loading {
+fn loading_in(bytes: &[u8; SIZE]) -> Result<Masses, RearOverloaded> {
     let two_axles = TwoAxles {
         power: units::number16(bytes, 2),
         front: units::number16(bytes, 4),
@@ -39,22 +39,14 @@ fn loading_in(bytes: &[u8; SIZE]) -> Loading {
     lorry::more_axles(two_axles, units::number16(bytes, 10))
 }
 
-// Prints the line of the next lorry; answers whether there was one.
-fn print_next(rt: &impl Print, file: &mut impl Read) -> io::Result<bool> {
-    let mut bytes = [0u8; SIZE];
-    if file.read_exact(&mut bytes).is_err() {
-        return Ok(false);
-    }
-    print_loading(rt, loading_in(&bytes))?;
-    Ok(true)
-}
-
-// The turns are counted, since a proved loop ends and nothing says that a file does.
+// Prints the line of each lorry. The turns are counted, since a proved loop ends and nothing says that a file does.
 fn print_all(rt: &impl Print, file: &mut impl Read) -> io::Result<()> {
     for _ in 0..u32::MAX {
-        if !print_next(rt, file)? {
+        let mut bytes = [0u8; SIZE];
+        if file.read_exact(&mut bytes).is_err() {
             break;
         }
+        print_loading(rt, loading_in(&bytes))?;
     }
     Ok(())
 }

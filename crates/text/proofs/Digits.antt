@@ -1,18 +1,18 @@
--- The digits of a number, case by case as `put_digits` takes them, and numbers in a row. Assumes nothing.
+-- The digits of a number, as the library writes them, and numbers in a row. Assumes nothing.
 use mathlib.Core.Path.{◌≡◌, refl, sym, ap, ◌∙◌}
 use mathlib.Core.List.{List, [], ◌∷◌, ◌++◌, append_assoc, append-nil}
-use Prim.Native.Nat.{ℕ, zero, suc, ◌+◌, ◌-◌, ◌/◌, ◌%◌, ◌≤◌, ◌<◌}
+use Prim.Native.Nat.{ℕ, zero, suc, ◌+◌, ◌-◌, ◌/◌, ◌%◌, ◌^◌, ◌≤◌, ◌<◌}
 use native.Mathlib.Nat.{not-suc-le-zero}
 use native.Mathlib.Numerals.{add-one}
 use native.Mathlib.Omega.{arith}
 use lib.ListN.{length, take, get_or}
 use lib.Seq.{take_all}
 use borrow.Author.Tests.{lt-ltb, le-ltb}
+use Rattle.std.specs.Fmt.{decimal}
+use Rattle.std.proofs.lemmas.Fmt.{AppendsLastDigit, decimal_from_appends, length-decimal-le}
 use Rattle.text.specs.Text.{digits_of, decimal_of, spaced, line_with}
 
-pub none : (most n : ℕ) → most ≡ 0 → digits_of most n ≡ []
-unfolding digits_of
-none most n e = rw e
+-- ---- a number
 
 pub one_digit : (most n : ℕ) → 1 ≤ most → n < 10 → digits_of most n ≡ (48 + n) ∷ []
 unfolding digits_of
@@ -26,13 +26,28 @@ more_digits (suc most) n h large =
     let pred : suc most - 1 ≡ most = omega arith in
     simp (le-ltb n 10 large, pred)
 
+appends : AppendsLastDigit digits_of
+appends =
+    record {
+      one = λ k n h. one_digit (suc k) n (omega arith) h;
+      more = λ k n h. let pred : suc k - 1 ≡ k = omega arith in rw pred at (more_digits (suc k) n (omega arith) h);
+    }
+
+pub at_most_20 : (n : ℕ) → n < 2 ^ 64 → length (decimal n) ≤ 20
+at_most_20 n h = length-decimal-le 20 n (omega arith) (omega arith) h
+
+-- what the library writes of a number of 64 bits
+pub written : (n : ℕ) → n < 2 ^ 64 → decimal n ≡ decimal_of n
+unfolding decimal_of
+written n h = sym (decimal_from_appends digits_of appends 20 n h (at_most_20 n h))
+
 -- ---- numbers, as `put_line` takes them
 
-pub one_more : (s ns : List ℕ) (n : ℕ) → n < length ns → spaced s (take (n + 1) ns) ≡ (spaced s (take n ns) ++ (32 ∷ [])) ++ digits_of 20 (get_or ns n 0)
-unfolding spaced decimal_of
+pub one_more : (s ns : List ℕ) (n : ℕ) → n < length ns → spaced s (take (n + 1) ns) ≡ (spaced s (take n ns) ++ (32 ∷ [])) ++ decimal_of (get_or ns n 0)
+unfolding spaced
 one_more s [] n h = absurd (not-suc-le-zero h)
 one_more s (x ∷ ns) zero h = refl
-one_more s (x ∷ ns) (suc n) h = rw (add-one (suc n)) (rw (add-one n) at (one_more ((s ++ (32 ∷ [])) ++ digits_of 20 x) ns n (omega arith)))
+one_more s (x ∷ ns) (suc n) h = rw (add-one (suc n)) (rw (add-one n) at (one_more ((s ++ (32 ∷ [])) ++ decimal_of x) ns n (omega arith)))
 
 pub all_of : (s ns : List ℕ) (n : ℕ) → length ns ≤ n → spaced s (take n ns) ≡ spaced s ns
 all_of s ns n h = rw (take_all n ns h)

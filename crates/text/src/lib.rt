@@ -3,7 +3,9 @@
 
 ghost use Rattle.std.specs.Prelude.{◌≡◌, ◌+◌, ◌*◌, ◌≤◌, ◌<◌, length, set};
 ghost use Rattle.std.proofs.lemmas.List.Edits.{sets};
-ghost use Rattle.text.specs.Text.{digits_of, line_with, onto};
+ghost use Rattle.text.specs.Text.{decimal_of, line_with, onto};
+
+use itoa::Buffer;
 
 // The byte b at `at`, and the place after it.
 fn put(b: u8, out: &mut [u8], at: usize) -> usize
@@ -16,37 +18,32 @@ fn put(b: u8, out: &mut [u8], at: usize) -> usize
 }
 
 // The bytes of a word at the front of `out`; answers how many.
+#[tactic(auto, using(crate::proofs::Stores::front), unfolding(crate::specs::Text::onto))]
 fn put_word(word: &[u8], out: &mut [u8]) -> usize
     requires { length word.now ≤ length out.old }
     ensures end { result ≡ length word.now }
     ensures written { out.new ≡ sets out.old 0 word.now }
 {
-    let mut n = 0;
-    while n < word.len() {
-        out[n] = word[n];
-        n += 1;
-    }
-    n
+    out[..word.len()].copy_from_slice(word);
+    word.len()
 }
 
-// The digits of n, the last `most` at the most. Recursive, since the most significant digit goes first.
-fn put_digits(n: u64, most: usize, out: &mut [u8], at: usize) -> usize
-    requires { at + most ≤ length out.old }
-    ensures end { (result ≡ at + length (digits_of most n)) × (result ≤ at + most) }
-    ensures written { out.new ≡ sets out.old at (digits_of most n) }
+// The digits of n from `at` on, and the place after them.
+fn put_number(n: u64, out: &mut [u8], at: usize) -> usize
+    requires { at + 20 ≤ length out.old }
+    ensures end { (result ≡ at + length (decimal_of n)) × (result ≤ at + 20) }
+    ensures written { out.new ≡ sets out.old at (decimal_of n) }
 {
-    if most == 0 {
-        at
-    } else if n < 10 {
-        put(48 + n as u8, out, at)
-    } else {
-        let end = put_digits(n / 10, most - 1, out, at);
-        put(48 + (n % 10) as u8, out, end)
-    }
+    let mut buffer = Buffer::new();
+    let digits = buffer.format(n).as_bytes();
+    let end = at + digits.len();
+    out[at..end].copy_from_slice(digits);
+    end
 }
 
 // A line at the front of `out`: a word, each number after a space, and a line feed; answers how many bytes it takes. The bytes behind it stay.
 // A number takes at most 21 bytes with its space.
+#[tactic(auto, unfolding(crate::specs::Text::spaced))]
 pub fn put_line(word: &[u8], numbers: &[u64], out: &mut [u8]) -> usize
     requires { length word.now + 21 * length numbers.now < length out.old }
     ensures size { result ≡ length (line_with word.now numbers.now) }
@@ -54,11 +51,9 @@ pub fn put_line(word: &[u8], numbers: &[u64], out: &mut [u8]) -> usize
     ensures bytes { out.new ≡ onto (line_with word.now numbers.now) out.old }
 {
     let mut end = put_word(word, out);
-    let mut n = 0;
-    while n < numbers.len() {
-        end = put(32, out, end);
-        end = put_digits(numbers[n], 20, out, end);
-        n += 1;
+    for number in numbers {
+        end = put(b' ', out, end);
+        end = put_number(*number, out, end);
     }
-    put(10, out, end)
+    put(b'\n', out, end)
 }

@@ -5,4 +5,4 @@ pub mod Some
 pub mod Last
 pub mod Tests
 pub mod Among
-pub mod Gathering
+pub mod Below

@@ -1,6 +1,6 @@
 -- Laws of tests: where every test passes, each does; a choice by a test; the marks of numbers. Assumes nothing.
-use mathlib.Core.Path.{◌≡◌, refl, sym, ap, ap₂, ◌∙◌}
-use mathlib.Core.Bool.{Bool, true, false, cond, ◌&&◌, ◌||◌, and-true, and_assoc, true≢false}
+use mathlib.Core.Path.{◌≡◌, refl, sym, ap, ◌∙◌}
+use mathlib.Core.Bool.{Bool, true, false, cond, ◌&&◌, ◌||◌, true≢false}
 use mathlib.Core.List.{List, [], ◌∷◌}
 use Prim.Native.Nat.{ℕ, zero, suc, ◌+◌, ◌<◌}
 use native.Mathlib.Nat.{not-suc-le-zero}
@@ -19,29 +19,6 @@ each (b ∷ tests) t (suc k) = each tests (and_r b (all_of tests) t) k
 pub by_test : {A : Type 0} (P : A → Type 0) (b : Bool) (yes' no' : A) → (b ≡ true → P yes') → (b ≡ false → P no') → P (cond b yes' no')
 by_test P true yes' no' p q = p refl
 by_test P false yes' no' p q = q refl
-
--- ---- tests joined one after the other, as code joins them
-
-abbrev pub chain : Bool → List Bool → Bool
-chain a [] = a
-chain a (b ∷ bs) = chain (a && b) bs
-
-chain_is : (a : Bool) (bs : List Bool) → chain a bs ≡ (a && all_of bs)
-chain_is a [] = sym (and-true a)
-chain_is a (b ∷ bs) = chain_is (a && b) bs ∙ and_assoc a b (all_of bs)
-
--- two lists of tests with the same outcomes
-pub data SameOutcomes : List Bool → List Bool → Type 0 where
-  done : SameOutcomes [] []
-  also : {a b : Bool} {xs ys : List Bool} → a ≡ b → SameOutcomes xs ys → SameOutcomes (a ∷ xs) (b ∷ ys)
-
-same_outcomes : {xs ys : List Bool} → SameOutcomes xs ys → all_of xs ≡ all_of ys
-same_outcomes done = refl
-same_outcomes (also e r) = ap₂ ◌&&◌ e (same_outcomes r)
-
--- Code that has passed the first test of a list and joins the others decides as the list does.
-pub chained : {l a b : Bool} {xs ys : List Bool} → l ≡ true → a ≡ b → SameOutcomes xs ys → chain a xs ≡ all_of (l ∷ (b ∷ ys))
-chained {l} {a} {b} {xs} {ys} first e r = chain_is a xs ∙ ap₂ ◌&&◌ e (same_outcomes r) ∙ sym (ap (λ (t : Bool). t && (b && all_of ys)) first)
 
 -- ---- two tests
 

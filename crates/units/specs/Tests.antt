@@ -1,10 +1,14 @@
 -- Tests of numbers, and lists of tests.
-use Rattle.std.specs.Prelude.{◌≡◌, Bool, true, false, ◌&&◌, ◌||◌, List, [], ◌∷◌, ℕ, zero, suc, ◌+◌, ◌≤◌, ◌<◌, eqb}
+use Rattle.std.specs.Prelude.{◌≡◌, Bool, Option, Some, None, cond, ltb, true, false, ◌&&◌, ◌||◌, List, [], ◌∷◌, ℕ, zero, suc, ◌+◌, ◌≤◌, ◌<◌, eqb}
 
 -- the lowest of the `count` numbers from n on that passes the test, and the number after them where none does
 unfoldable pub lowest : (ℕ → Bool) → ℕ → ℕ → ℕ
 lowest test zero n = n
 lowest test (suc count) n = elim (test n) [ true ↦ n | false ↦ lowest test count (suc n) ]
+
+-- a number, if it is below the end: a search that comes to its end has found none
+unfoldable pub below : ℕ → ℕ → Option ℕ
+below end n = cond (ltb n end) (Some n) None
 
 -- r is the first of the `count` numbers from n on that passes the test
 pub record FirstOf (test : ℕ → Bool) (count n r : ℕ) : Type 0 where

@@ -6,11 +6,11 @@ ghost use Rattle.units.specs.Rounding.{rounded};
 ghost use Rattle.units.specs.Bytes.{number};
 
 // A sound level, in tenths of dB(A).
-#[derive(Clone, Copy)]
+#[derive(Clone, Copy, Debug, Default, PartialEq, Eq, PartialOrd, Ord)]
 pub struct Tenths(pub u16);
 
 // An acceleration, in hundredths of m/s². A type of its own, so that code for gears cannot be handed a level.
-#[derive(Clone, Copy)]
+#[derive(Clone, Copy, Debug, Default, PartialEq, Eq, PartialOrd, Ord)]
 pub struct Hundredths(pub u16);
 
 // n / d to the nearest whole number, a half going up. Reckoned from the remainder, so that no sum can wrap.
@@ -34,20 +34,12 @@ pub fn whole_decibels(level: Tenths) -> u16
     round(level.0 as u32, 10) as u16
 }
 
-fn wide(x: u8) -> u32
-    ensures { (result ≡ x) × (result < 256) }
-{
-    x as u32
-}
-
 // The 16-bit number at `at`, low byte first.
 pub fn number16(s: &[u8], at: usize) -> u16
     requires { at + 2 ≤ length s.now }
     ensures { result ≡ number s.now at 2 }
 {
-    let low = wide(s[at]);
-    let high = wide(s[at + 1]);
-    (low + 256 * high) as u16
+    u16::from_le_bytes([s[at], s[at + 1]])
 }
 
 // The 32-bit number at `at`, low byte first.
@@ -55,9 +47,5 @@ pub fn number32(s: &[u8], at: usize) -> u32
     requires { at + 4 ≤ length s.now }
     ensures { result ≡ number s.now at 4 }
 {
-    let a = wide(s[at]);
-    let b = wide(s[at + 1]);
-    let c = wide(s[at + 2]);
-    let d = wide(s[at + 3]);
-    a + 256 * b + 65536 * c + 16777216 * d
+    u32::from_le_bytes([s[at], s[at + 1], s[at + 2], s[at + 3]])
 }

@@ -42,6 +42,7 @@ pub struct Basis {
 }
 
 // The level between L(i) and L(j) at k hundredths, as a sum of two parts of which none is below 0.
+#[tactic(auto, using(crate::proofs::Weights::weighed_sum, crate::proofs::Weights::weighed_most))]
 pub fn weighed(k: u8, i: Tenths, j: Tenths) -> Tenths
     requires { k ≤ 100 }
     ensures { result.0 ≡ weighed_level k i.0 j.0 }
@@ -52,6 +53,7 @@ pub fn weighed(k: u8, i: Tenths, j: Tenths) -> Tenths
 }
 
 // The basis of a pair: k, and with it the weighed levels.
+#[tactic(auto, using(gears::proofs::Accelerations::k_most), unfolding(crate::specs::Urban::basis_of))]
 fn pair_basis(reference: Reference, rule: u8, i: ChosenGear, j: ChosenGear) -> Basis
     requires { Straddled reference (Pair rule i j) }
     ensures { result ≡ basis_of reference (Pair rule i j) }
@@ -76,25 +78,21 @@ fn pair_basis(reference: Reference, rule: u8, i: ChosenGear, j: ChosenGear) -> B
 }
 
 // W, C and a' of what was chosen.
+#[tactic(auto, unfolding(crate::specs::Urban::basis_of))]
 pub fn basis_of(reference: Reference, chosen: Chosen) -> Basis
     requires { Straddled reference chosen }
     ensures { result ≡ basis_of reference chosen }
 {
     match chosen {
-        Chosen::One(rule, g) => {
-            let w = window::condition_level(g.acceleration_window);
-            let c = window::condition_level(g.constant_window);
-            let a = g.gear.acceleration;
-            Basis {
-                rule,
-                i: g.gear.number,
-                j: 0,
-                k: 100,
-                w,
-                c,
-                a,
-            }
-        }
+        Chosen::One(rule, g) => Basis {
+            rule,
+            i: g.gear.number,
+            j: 0,
+            k: 100,
+            w: window::condition_level(g.acceleration_window),
+            c: window::condition_level(g.constant_window),
+            a: g.gear.acceleration,
+        },
         Chosen::Pair(rule, i, j) => pair_basis(reference, rule, i, j),
     }
 }
@@ -107,10 +105,11 @@ pub struct LUrban {
 }
 
 // kp from the two accelerations, in hundredths. Where they are equal it is 0 and nothing is divided.
+#[tactic(auto, using(crate::proofs::PartPower::kp_none, crate::proofs::PartPower::kp_some, crate::proofs::PartPower::kp_most))]
 fn part_power(a_urban: Hundredths, a: Hundredths) -> u8
     ensures { result ≡ part_power a_urban.0 a.0 }
 {
-    if a.0 <= a_urban.0 {
+    if a <= a_urban {
         return 0;
     }
     let more = (a.0 - a_urban.0) as u32;
@@ -118,6 +117,7 @@ fn part_power(a_urban: Hundredths, a: Hundredths) -> u8
 }
 
 // L_urban and kp from W, C and a'.
+#[tactic(auto, using(units::proofs::Rounding::rounded_within, crate::proofs::PartPower::off_most), unfolding(crate::specs::Urban::l_urban_of))]
 pub fn l_urban(reference: Reference, a: Hundredths, w: Tenths, c: Tenths) -> LUrban
     ensures { result ≡ l_urban_of reference a.0 w.0 c.0 }
 {
@@ -127,7 +127,7 @@ pub fn l_urban(reference: Reference, a: Hundredths, w: Tenths, c: Tenths) -> LUr
             level: units::whole_decibels(w),
         };
     }
-    if w.0 < c.0 {
+    if w < c {
         return LUrban {
             kp: 100,
             level: units::whole_decibels(c),
@@ -161,15 +161,11 @@ pub struct Outcome {
 }
 
 // The result, against a limit in whole dB(A).
+#[tactic(auto, unfolding(crate::specs::Urban::outcome_of))]
 pub fn outcome_of(reference: Reference, limit: u16, basis: Basis) -> Outcome
     ensures { result ≡ outcome_of reference limit basis }
 {
-    let a_urban = reference.a_urban;
-    let a_ref = reference.a_ref;
-    let w = basis.w;
-    let c = basis.c;
-    let a = basis.a;
-    let l = l_urban(reference, a, w, c);
+    let l = l_urban(reference, basis.a, basis.w, basis.c);
     Outcome {
         rule: basis.rule,
         i: basis.i,
@@ -177,12 +173,12 @@ pub fn outcome_of(reference: Reference, limit: u16, basis: Basis) -> Outcome
         k: basis.k,
         kp: l.kp,
         pass: l.level <= limit,
-        w,
-        c,
+        w: basis.w,
+        c: basis.c,
         l_urban: l.level,
-        a_urban,
-        a_ref,
+        a_urban: reference.a_urban,
+        a_ref: reference.a_ref,
         pmr: reference.pmr,
-        a,
+        a: basis.a,
     }
 }

@@ -3,13 +3,13 @@ use mathlib.Core.Path.{◌≡◌, ap}
 use mathlib.Core.Bool.{Bool, true, false, cond}
 use Prim.Native.Nat.{ℕ}
 use native.Mathlib.Omega.{arith}
+use Rattle.std.specs.Prelude.{Some, None}
 use Rattle.units.specs.declared.Tenths.{Tenths}
 use Rattle.level.specs.Level.{side_of}
 use Rattle.record.specs.declared.Backgrounds.{Backgrounds}
 use Rattle.record.specs.declared.Run.{Run}
 use Rattle.record.specs.Records.{reading_from}
 use Rattle.window.specs.declared.ValidRun.{ValidRun}
-use Rattle.valid_runs.specs.declared.Validity.TheVariants.{Valid, NotValid}
 use Rattle.valid_runs.specs.ValidRuns.{left_side, right_side, both_sides, valid_of}
 use Rattle.valid_runs.proofs.Counting.{made}
 
@@ -23,11 +23,11 @@ module _ (run : Run) (b b' : Backgrounds) where
 
   -- A run that is valid over two pairs of backgrounds is valid over the left one of the first and the right one of the second, with the left
   -- level that it has over the first and the right level that it has over the second.
-  pub sides_apart : (n : ℕ) (v v' : ValidRun) → valid_of run b n ≡ Valid v → valid_of run b' n ≡ Valid v' → valid_of run (record { left = b.left; right = b'.right }) n ≡ Valid (record { left = v.left; right = v'.right; start = v.start; end = v.end; engine = v.engine; number = v.number })
+  pub sides_apart : (n : ℕ) (v v' : ValidRun) → valid_of run b n ≡ Some v → valid_of run b' n ≡ Some v' → valid_of run (record { left = b.left; right = b'.right }) n ≡ Some (record { left = v.left; right = v'.right; start = v.start; end = v.end; engine = v.engine; number = v.number })
   unfolding valid_of both_sides
   sides_apart n v v' = by run.struck
     where
-      by : (struck : Bool) → cond struck NotValid (both_sides run n (left_side run b) (right_side run b)) ≡ Valid v → cond struck NotValid (both_sides run n (left_side run b') (right_side run b')) ≡ Valid v' → cond struck NotValid (both_sides run n (left_side run b) (right_side run b')) ≡ Valid (record { left = v.left; right = v'.right; start = v.start; end = v.end; engine = v.engine; number = v.number })
+      by : (struck : Bool) → cond struck None (both_sides run n (left_side run b) (right_side run b)) ≡ Some v → cond struck None (both_sides run n (left_side run b') (right_side run b')) ≡ Some v' → cond struck None (both_sides run n (left_side run b) (right_side run b')) ≡ Some (record { left = v.left; right = v'.right; start = v.start; end = v.end; engine = v.engine; number = v.number })
       by true e e' = absurd (let z : ◌≡◌ {A = ℕ} 0 1 = cc in omega arith)
       by false e e' =
           let m = made run n (left_side run b) (right_side run b) v e in

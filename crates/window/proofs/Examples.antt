@@ -4,14 +4,14 @@ use mathlib.Core.Bool.{Bool, true, false, cond, not, ◌&&◌}
 use mathlib.Core.List.{List, [], ◌∷◌, map}
 use Prim.Native.Nat.{ℕ}
 use lib.Dec.{T, eqb}
+use Rattle.std.specs.Prelude.{Result, Ok, Err}
 use Rattle.units.specs.Rounding.{rounded}
 use Rattle.units.specs.Tests.{lowest, all_of}
 use Rattle.refusal.specs.declared.Shortage.{Shortage}
 use Rattle.refusal.specs.declared.Shortage.TheVariants.{TooFew, TooWide}
 use Rattle.refusal.specs.Refusal.{by_shortage}
 use Rattle.window.specs.declared.ValidRun.{ValidRun}
-use Rattle.window.specs.declared.Window.{Window}
-use Rattle.window.specs.declared.Window.TheVariants.{Runs, Nothing}
+use Rattle.window.specs.declared.Four.{Four}
 use Rattle.window.specs.Extremes.{AreExtremes}
 use Rattle.window.specs.Windows.{spanned, fitting, larger_sum, condition_level, empty_run, four_at, first_place, shortage_of, first_window}
 use Rattle.window.proofs.HeldExtremes.{extremes, first_extremes, next_extremes}
@@ -26,13 +26,13 @@ data Example : Type 0 where
   -- there is none, for this reason
   none : List ValidRun → Shortage → Example
 
-is_at : ℕ → ℕ → Window → Bool
-is_at n level (Runs f) = eqb f.a.number n && eqb (condition_level f) level
-is_at n level (Nothing x) = false
+is_at : ℕ → ℕ → Result Four Shortage → Bool
+is_at n level (Ok f) = eqb f.a.number n && eqb (condition_level f) level
+is_at n level (Err x) = false
 
-is_none : Shortage → Window → Bool
-is_none x (Runs f) = false
-is_none x (Nothing y) = eqb (by_shortage 0 1 x) (by_shortage 0 1 y)
+is_none : Shortage → Result Four Shortage → Bool
+is_none x (Ok f) = false
+is_none x (Err y) = eqb (by_shortage 0 1 x) (by_shortage 0 1 y)
 
 holds : Example → Bool
 holds (starts rest n level) = is_at n level (first_window rest)

@@ -8,13 +8,12 @@ use lib.Dec.{ltb}
 use lib.ListN.{length, get_or, drop, length-append, length-drop, get_or-append}
 use lib.Seq.{get_or-drop, drop-append-le}
 use borrow.Author.Tests.{lt-ltb, le-ltb, ltb-true, ltb-false}
+use Rattle.std.specs.Prelude.{Result, Ok, Err}
 use Rattle.units.proofs.Lowest.{lowest_is}
 use Rattle.refusal.specs.declared.Shortage.{Shortage}
 use Rattle.refusal.specs.declared.Shortage.TheVariants.{TooWide}
 use Rattle.window.specs.declared.ValidRun.{ValidRun}
 use Rattle.window.specs.declared.Four.{Four}
-use Rattle.window.specs.declared.Window.{Window}
-use Rattle.window.specs.declared.Window.TheVariants.{Runs, Nothing}
 use Rattle.window.specs.Windows.{fitting, empty_run, four_at, first_place, shortage_of, first_window}
 use Rattle.window.proofs.Searches.{first_is, none_is}
 
@@ -40,22 +39,22 @@ four_after ws n i = same_four (get_or-drop n ws i empty_run) (at 1) (at 2) (at 3
 
 module _ (rest : List ValidRun) where
   -- a place that fits, with none before it, is the first window's
-  first_of : (p : ℕ) → p + 3 < length rest → fitting (four_at rest p) ≡ true → ((i : ℕ) → i < p → fitting (four_at rest i) ≡ false) → first_window rest ≡ Runs (four_at rest p)
+  pub first_of : (p : ℕ) → p + 3 < length rest → fitting (four_at rest p) ≡ true → ((i : ℕ) → i < p → fitting (four_at rest i) ≡ false) → first_window rest ≡ Ok (four_at rest p)
   unfolding first_window first_place
   first_of p h e none =
       simp
       (lowest_is (λ i. fitting (four_at rest i)) (length rest - 3) 0 p (record { least = omega arith; most = omega arith; before = λ k l m. none k m; passes = λ l. e }), lt-ltb p (length rest - 3) (omega arith))
 
-  pub none_of : ((i : ℕ) → i + 3 < length rest → fitting (four_at rest i) ≡ false) → first_window rest ≡ Nothing (shortage_of (length rest))
+  pub none_of : ((i : ℕ) → i + 3 < length rest → fitting (four_at rest i) ≡ false) → first_window rest ≡ Err (shortage_of (length rest))
   unfolding first_window first_place
   none_of none =
       simp
       (lowest_is (λ i. fitting (four_at rest i)) (length rest - 3) 0 (length rest - 3) (record { least = omega arith; most = omega arith; before = λ k l m. none k (omega arith); passes = λ l. absurd (omega arith) }), le-ltb (length rest - 3) (length rest - 3) (omega arith))
 
 -- A window, or none whatever the shortage: a part of some runs may be short where all of them are not.
-unfoldable pub widened : Window → Window
-widened (Runs f) = Runs f
-widened (Nothing x) = Nothing TooWide
+unfoldable pub widened : Result Four Shortage → Result Four Shortage
+widened (Ok f) = Ok f
+widened (Err x) = Err TooWide
 
 -- places that do not fit can be left out from the front
 skipped : (ws : List ValidRun) (n : ℕ) → n ≤ length ws → ((i : ℕ) → i < n → fitting (four_at ws i) ≡ false) → widened (first_window ws) ≡ widened (first_window (drop n ws))
@@ -76,22 +75,22 @@ skipped ws n h none = by (first_window (drop n ws)) refl
             let place : n + (i - n) ≡ i = omega arith in
             sym (ap fitting (four_after ws n (i - n) ∙ ap (four_at ws) place)) ∙ rest (i - n) (omega arith)
 
-    by : (w : Window) → first_window (drop n ws) ≡ w → widened (first_window ws) ≡ widened w
-    by (Runs f) e =
+    by : (w : Result Four Shortage) → first_window (drop n ws) ≡ w → widened (first_window ws) ≡ widened w
+    by (Ok f) e =
         let w = first_is (drop n ws) f e in
         let here : four_at ws (n + w.place) ≡ f = sym (four_after ws n w.place) ∙ sym w.is in
-        ap widened (first_of ws (n + w.place) (omega (arith, w.inside, long)) (ap fitting here ∙ w.fits) (before w.place w.earliest) ∙ ap Runs here)
-    by (Nothing x) e = ap widened (none_of ws (λ i l. before (length ws - n - 3) (λ j k. (none_is (drop n ws) x e).1 j (omega (arith, long))) i (omega arith)))
+        ap widened (first_of ws (n + w.place) (omega (arith, w.inside, long)) (ap fitting here ∙ w.fits) (before w.place w.earliest) ∙ ap Ok here)
+    by (Err x) e = ap widened (none_of ws (λ i l. before (length ws - n - 3) (λ j k. (none_is (drop n ws) x e).1 j (omega (arith, long))) i (omega arith)))
 
 -- a window of a first part is the first of all
-pub found_in_part : (xs ys : List ValidRun) (f : Four) → first_window xs ≡ Runs f → first_window (xs ++ ys) ≡ Runs f
+pub found_in_part : (xs ys : List ValidRun) (f : Four) → first_window xs ≡ Ok f → first_window (xs ++ ys) ≡ Ok f
 found_in_part xs ys f e =
     let w = first_is xs f e in
     let here : four_at (xs ++ ys) w.place ≡ f = four_in xs ys w.place w.inside ∙ sym w.is in
-    first_of (xs ++ ys) w.place (omega (arith, w.inside, length-append xs ys)) (ap fitting here ∙ w.fits) (λ i l. ap fitting (four_in xs ys i (omega (arith, w.inside))) ∙ w.earliest i l) ∙ ap Runs here
+    first_of (xs ++ ys) w.place (omega (arith, w.inside, length-append xs ys)) (ap fitting here ∙ w.fits) (λ i l. ap fitting (four_in xs ys i (omega (arith, w.inside))) ∙ w.earliest i l) ∙ ap Ok here
 
 -- of a first part without a window, only the last three runs matter for what follows
-carried_on : (xs ys : List ValidRun) (x : Shortage) → first_window xs ≡ Nothing x → widened (first_window (xs ++ ys)) ≡ widened (first_window (drop (length xs - 3) xs ++ ys))
+carried_on : (xs ys : List ValidRun) (x : Shortage) → first_window xs ≡ Err x → widened (first_window (xs ++ ys)) ≡ widened (first_window (drop (length xs - 3) xs ++ ys))
 carried_on xs ys x e =
     skipped (xs ++ ys) (length xs - 3) (omega (arith, length-append xs ys)) (λ i l. ap fitting (four_in xs ys i (omega arith)) ∙ (none_is xs x e).1 i (omega arith))
     ∙ ap (λ (l : List ValidRun). widened (first_window l)) (drop-append-le (length xs - 3) xs ys (omega arith))
@@ -104,9 +103,9 @@ four_or_more rest h = by (first_window rest) refl
     wide : shortage_of (length rest) ≡ TooWide
     wide = simp (le-ltb (length rest) 4 h)
 
-    by : (w : Window) → first_window rest ≡ w → widened w ≡ w
-    by (Runs f) e = refl
-    by (Nothing x) e = ap Nothing (sym ((none_is rest x e).0 ∙ wide))
+    by : (w : Result Four Shortage) → first_window rest ≡ w → widened w ≡ w
+    by (Ok f) e = refl
+    by (Err x) e = ap Err (sym ((none_is rest x e).0 ∙ wide))
 
 -- ---- runs that stand for all of which a part was searched
 
@@ -117,13 +116,13 @@ StandFor true some all = (4 ≤ length all) × (widened (first_window some) ≡ 
 
 module _ (all : List ValidRun) where
   -- a window of their first part is the first of all
-  pub found_in : (carried : Bool) (xs ys : List ValidRun) (f : Four) → StandFor carried (xs ++ ys) all → first_window xs ≡ Runs f → first_window all ≡ Runs f
+  pub found_in : (carried : Bool) (xs ys : List ValidRun) (f : Four) → StandFor carried (xs ++ ys) all → first_window xs ≡ Ok f → first_window all ≡ Ok f
   unfolding StandFor widened
   found_in false xs ys f l e = ap first_window (sym l) ∙ found_in_part xs ys f e
   found_in true xs ys f l e = sym l.1 ∙ ap widened (found_in_part xs ys f e)
 
   -- if that part has none, its last three are carried on
-  pub carried : (before : Bool) (xs ys : List ValidRun) (x : Shortage) → 4 ≤ length xs → StandFor before (xs ++ ys) all → first_window xs ≡ Nothing x → StandFor true (drop (length xs - 3) xs ++ ys) all
+  pub carried : (before : Bool) (xs ys : List ValidRun) (x : Shortage) → 4 ≤ length xs → StandFor before (xs ++ ys) all → first_window xs ≡ Err x → StandFor true (drop (length xs - 3) xs ++ ys) all
   unfolding StandFor
   carried false xs ys x h l e =
       let many : 4 ≤ length all = rw (← l) (omega (arith, length-append xs ys)) in
@@ -131,7 +130,7 @@ module _ (all : List ValidRun) where
   carried true xs ys x h l e = (l.0, sym (carried_on xs ys x e) ∙ l.1)
 
   -- if they have none, neither have all, which are too wide if runs were carried on
-  pub none_in : (carried : Bool) (some : List ValidRun) (x : Shortage) → StandFor carried some all → first_window some ≡ Nothing x → first_window all ≡ Nothing (cond carried TooWide x)
+  pub none_in : (carried : Bool) (some : List ValidRun) (x : Shortage) → StandFor carried some all → first_window some ≡ Err x → first_window all ≡ Err (cond carried TooWide x)
   unfolding StandFor widened
   none_in false some x l e = ap first_window (sym l) ∙ e
   none_in true some x l e = sym l.1 ∙ ap widened e

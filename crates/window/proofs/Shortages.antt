@@ -7,9 +7,9 @@ use native.Mathlib.Omega.{arith}
 use lib.ListN.{length}
 use lib.Dec.{ltb}
 use borrow.Author.Tests.{lt-ltb, le-ltb, ltb-true, ltb-false}
+use Rattle.std.specs.Prelude.{Err}
 use Rattle.refusal.specs.declared.Shortage.TheVariants.{TooFew, TooWide}
 use Rattle.window.specs.declared.ValidRun.{ValidRun}
-use Rattle.window.specs.declared.Window.TheVariants.{Nothing}
 use Rattle.window.specs.Windows.{shortage_of, first_window}
 use Rattle.window.specs.Shortages.{NoneFits, OnTheirCauses}
 use Rattle.window.proofs.Searches.{first_is, none_is}
@@ -24,17 +24,17 @@ unfolding shortage_of
 many count h = simp (le-ltb count 4 h)
 
 module _ (rest : List ValidRun) where
-  no_window : length rest < 4 → first_window rest ≡ Nothing TooFew
-  no_window h = none_of rest (λ i l. absurd (omega arith)) ∙ ap Nothing (few (length rest) h)
+  no_window : length rest < 4 → first_window rest ≡ Err TooFew
+  no_window h = none_of rest (λ i l. absurd (omega arith)) ∙ ap Err (few (length rest) h)
 
-  few_only : first_window rest ≡ Nothing TooFew → length rest < 4
+  few_only : first_window rest ≡ Err TooFew → length rest < 4
   few_only e = by (ltb (length rest) 4) refl
     where
       by : (b : Bool) → ltb (length rest) 4 ≡ b → length rest < 4
       by true t = ltb-true (length rest) 4 t
       by false t = absurd (let same : TooFew ≡ TooWide = (none_is rest TooFew e).0 ∙ many (length rest) (ltb-false (length rest) 4 t) in let z : ◌≡◌ {A = ℕ} 0 1 = cc in omega arith)
 
-  wide_only : first_window rest ≡ Nothing TooWide → (4 ≤ length rest) × NoneFits rest
+  wide_only : first_window rest ≡ Err TooWide → (4 ≤ length rest) × NoneFits rest
   wide_only e = (by (ltb (length rest) 4) refl, (none_is rest TooWide e).1)
     where
       by : (b : Bool) → ltb (length rest) 4 ≡ b → 4 ≤ length rest
@@ -45,6 +45,6 @@ module _ (rest : List ValidRun) where
   on_their_causes =
       record {
         too_few = (few_only, no_window);
-        too_wide = (wide_only, λ h. none_of rest h.1 ∙ ap Nothing (many (length rest) h.0));
+        too_wide = (wide_only, λ h. none_of rest h.1 ∙ ap Err (many (length rest) h.0));
         few_have_none = λ h f e. omega (arith, (first_is rest f e).inside);
       }

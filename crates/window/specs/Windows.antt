@@ -1,13 +1,11 @@
 -- Windows and the level of a condition (document 01, "From levels to windows", steps 4 and 5; document 02, wish 5). Levels are in tenths of dB(A).
-use Rattle.std.specs.Prelude.{Bool, cond, ◌&&◌, List, ℕ, ◌+◌, ◌-◌, max, min, leb, ltb, length, get_or}
+use Rattle.std.specs.Prelude.{Bool, Result, Ok, Err, cond, ◌&&◌, List, ℕ, ◌+◌, ◌-◌, max, min, leb, ltb, length, get_or}
 use Rattle.units.specs.Rounding.{rounded}
 use Rattle.units.specs.Tests.{lowest}
 use Rattle.refusal.specs.declared.Shortage.{Shortage}
 use Rattle.refusal.specs.declared.Shortage.TheVariants.{TooFew, TooWide}
 use Rattle.window.specs.declared.ValidRun.{ValidRun}
 use Rattle.window.specs.declared.Four.{Four}
-use Rattle.window.specs.declared.Window.{Window}
-use Rattle.window.specs.declared.Window.TheVariants.{Runs, Nothing}
 
 -- ---- step 4: a window is four neighbours that lie close together
 
@@ -37,8 +35,8 @@ first_place rest = lowest (λ i. fitting (four_at rest i)) (length rest - 3) 0
 unfoldable pub shortage_of : ℕ → Shortage
 shortage_of count = cond (ltb count 4) TooFew TooWide
 
-unfoldable pub first_window : List ValidRun → Window
-first_window rest = cond (ltb (first_place rest) (length rest - 3)) (Runs (four_at rest (first_place rest))) (Nothing (shortage_of (length rest)))
+unfoldable pub first_window : List ValidRun → Result Four Shortage
+first_window rest = cond (ltb (first_place rest) (length rest - 3)) (Ok (four_at rest (first_place rest))) (Err (shortage_of (length rest)))
 
 -- ---- step 5: the level of a condition
 

@@ -5,4 +5,4 @@ use Rattle.every_level.proofs.bytes_of.Goals as goal
 
 pub returns : goal.returns
 unfolding number
-returns c = omega arith
+returns c = rw c.to_le_bytes.ensures (omega arith)

@@ -1,56 +1,61 @@
--- Rule by rule, over the gears that count. Assumes nothing.
-use mathlib.Core.Path.{◌≡◌, sym, ◌∙◌}
-use mathlib.Core.List.{List}
-use Prim.Native.Nat.{ℕ, ◌-◌, ◌≤◌, ◌<◌}
-use native.Mathlib.Omega.{arith}
-use lib.ListN.{length, take}
-use borrow.Author.Rules.{rules}
-use borrow.Author.Tests.{lt-ltb, le-ltb}
+-- Rule by rule, where gear i is next to place j. Assumes nothing.
+use Rattle.std.proofs.Common.{rules, ◌≡◌, ℕ, ◌+◌, ◌-◌, ◌≤◌, ◌<◌, List, Some, None, length, refl, sym, ap, ◌∙◌, arith}
+use Rattle.std.specs.Option.{option_map}
+use lib.Dec.{ltb}
+use mathlib.Core.Bool.{Bool, true, false, cond}
+use Rattle.units.specs.Tests.{below}
 use Rattle.gears.specs.declared.Gear.{Gear}
-use Rattle.gears.specs.Rules.{ceiling, first_below, one_at, across_of}
-use Rattle.gears.proofs.Places.{counted, read, a_taken}
+use Rattle.gears.specs.declared.Choice.TheVariants.{One, Pair}
+use Rattle.gears.specs.Rules.{a, gear_at, empty_gear, ceiling, one_at, first_below, across_of}
+use Rattle.gears.proofs.Places.{i_none, i_some}
 use Rattle.gears.proofs.Choices.{no_i, no_j, rule_3, rule_4, rule_5}
 use Rattle.gears.proofs.across.Goals as goal
 
--- under rule 4
-under_4 : (gears : List Gear) (count u j : ℕ) → length gears ≡ 16 → count ≤ 16 → 0 < j → j < count → ceiling < read gears (j - 1) → u ≤ read gears j → across_of u (take count gears) j ≡ one_at 4 (take count gears) (first_below (take count gears))
-under_4 gears count u j long few h l m n =
-    rule_4 u (take count gears) j h (omega (arith, counted gears count long few))
-    (omega (arith, a_taken gears count (j - 1) (omega arith)))
-    (omega (arith, a_taken gears count j l))
+module _ (u : ℕ) (gears : List Gear) (j i : ℕ) (next : j ≡ i + 1) (inside : i + 1 < length gears) where
+  here : j - 1 ≡ i
+  here = omega arith
 
-pub returns-then-j-eq0 : goal.returns-then-j-eq0
-returns-then-j-eq0 c = sym (no_i _ (take c.args.count c.args.gears) _ c.if-j-eq0.true)
+  by_3 : a gears i ≤ ceiling → Some (Pair 3 i) ≡ across_of u gears j
+  by_3 m = sym (rule_3 u gears j (omega arith) (omega arith) (rw here m) ∙ ap (λ p. Some (Pair 3 p)) here)
 
-pub returns-then-count-j : goal.returns-then-count-j
-returns-then-count-j c =
-    let s = c.args in
-    sym (no_j _ (take s.count s.gears) _ (omega arith) (omega (arith, counted s.gears s.count (search rules) c.requires)))
+  by_4 : ceiling < a gears i → u ≤ a gears (i + 1) → one_at 4 gears (first_below gears) ≡ across_of u gears j
+  by_4 m n = sym (rule_4 u gears j (omega arith) (omega arith) (rw here m) (rw next n))
 
-pub returns-then-gi : goal.returns-then-gi
-returns-then-gi c =
-    let s = c.args in
-    sym (rule_3 _ (take s.count s.gears) s.j (omega arith) (omega (arith, counted s.gears s.count (search rules) c.requires)) (omega (arith, a_taken s.gears s.count (s.j - 1) (omega arith))))
+  by_5 : ceiling < a gears i → a gears (i + 1) < u → Some (Pair 5 i) ≡ across_of u gears j
+  by_5 m n = sym (rule_5 u gears j (omega arith) (omega arith) (rw here m) (rw next n) ∙ ap (λ p. Some (Pair 5 p)) here)
 
-pub returns-then-f-count : goal.returns-then-f-count
-unfolding one_at
-returns-then-f-count c =
-    let s = c.args in
-    let f = c.below_ceiling-f in
-    sym
-    (under_4 s.gears s.count s.reference.a_urban.0 s.j (search rules) c.requires (omega arith) (omega arith) c.if-gi.false c.if-reference-gj.true
-    ∙ simp (sym f.ensures, lt-ltb f.result (length (take s.count s.gears)) (omega (arith, counted s.gears s.count (search rules) c.requires))))
+one_below : (rule : ℕ) (gears : List Gear) (p : ℕ) → option_map (One rule) (below (length gears) p) ≡ one_at rule gears p
+unfolding below one_at
+one_below rule gears p = by (ltb p (length gears))
+  where
+    by : (t : Bool) → option_map (One rule) (cond t (Some p) None) ≡ cond t (Some (One rule p)) None
+    by true = refl
+    by false = refl
 
-pub returns-then-reference-gj : goal.returns-then-reference-gj
-unfolding one_at
-returns-then-reference-gj c =
-    let s = c.args in
-    let f = c.below_ceiling-f in
-    sym
-    (under_4 s.gears s.count s.reference.a_urban.0 s.j (search rules) c.requires (omega arith) (omega arith) c.if-gi.false c.if-reference-gj.true
-    ∙ simp (sym f.ensures, le-ltb f.result (length (take s.count s.gears)) (omega (arith, counted s.gears s.count (search rules) c.requires))))
+pub returns-in_err-i : goal.returns-in_err-i
+returns-in_err-i c = c.from_residual.ensures ∙ sym (no_i _ _ _ (i_none _ _ (sym c.i_place.ensures ∙ c.in_err-i.was)))
+
+pub overflow_add-j : goal.overflow_add-j
+overflow_add-j c = let is = i_some _ _ _ (sym c.i_place.ensures ∙ c.in_ok-i.was) in search rules
+
+pub returns-then-gears-j : goal.returns-then-gears-j
+returns-then-gears-j c = let is = i_some _ _ _ (sym c.i_place.ensures ∙ c.in_ok-i.was) in sym (no_j _ _ _ (omega arith) (omega arith))
+
+pub returns-then-le : goal.returns-then-le
+unfolding a gear_at empty_gear
+returns-then-le c =
+    let is = i_some _ _ _ (sym c.i_place.ensures ∙ c.in_ok-i.was) in
+    by_3 _ _ _ _ is.0 c.if-gears-j.false (search rules)
+
+pub returns-then-le-2 : goal.returns-then-le-2
+unfolding a gear_at empty_gear
+returns-then-le-2 c =
+    let is = i_some _ _ _ (sym c.i_place.ensures ∙ c.in_ok-i.was) in
+    let under : c.map.result ≡ option_map (One 4) c.below_ceiling.result = search rules in
+    under ∙ ap (option_map (One 4)) c.below_ceiling.ensures ∙ one_below 4 _ _ ∙ by_4 _ _ _ _ is.0 c.if-gears-j.false (search rules) (search rules)
 
 pub returns : goal.returns
+unfolding a gear_at empty_gear
 returns c =
-    let s = c.args in
-    sym (rule_5 _ (take s.count s.gears) s.j (omega arith) (omega (arith, counted s.gears s.count (search rules) c.requires)) (omega (arith, a_taken s.gears s.count (s.j - 1) (omega arith))) (omega (arith, a_taken s.gears s.count s.j (omega arith))))
+    let is = i_some _ _ _ (sym c.i_place.ensures ∙ c.in_ok-i.was) in
+    by_5 _ _ _ _ is.0 c.if-gears-j.false (search rules) (search rules)

@@ -1,29 +1,22 @@
--- Rule by rule, over the gears that count. Assumes nothing.
-use mathlib.Core.Path.{sym, ap, ◌∙◌}
-use native.Mathlib.Omega.{arith}
-use lib.ListN.{take}
-use borrow.Author.Rules.{rules}
+-- Rule by rule. Assumes nothing.
+use Rattle.std.proofs.Common.{sym, ap, ◌∙◌, Some, arith}
 use Rattle.gears.specs.declared.Choice.TheVariants.{One}
-use Rattle.gears.specs.Rules.{across_of}
-use Rattle.gears.proofs.Places.{counted}
+use Rattle.units.proofs.Below.{below_some, below_none}
 use Rattle.gears.proofs.Choices.{no_gear, rule_1, rule_2, rules_3_to_5}
 use Rattle.gears.proofs.choose.Goals as goal
 
-pub returns-then-count-eq0 : goal.returns-then-count-eq0
-returns-then-count-eq0 c = sym (no_gear _ (take c.args.count c.args.gears) (counted c.args.gears c.args.count (search rules) c.requires ∙ c.if-count-eq0.true))
+pub returns-in-0 : goal.returns-in-0
+returns-in-0 c = sym (no_gear _ _ c.in-0.is)
 
-pub returns-then-count-eq1 : goal.returns-then-count-eq1
-returns-then-count-eq1 c = sym (rule_1 _ (take c.args.count c.args.gears) (counted c.args.gears c.args.count (search rules) c.requires ∙ c.if-count-eq1.true))
+pub returns-in-1 : goal.returns-in-1
+returns-in-1 c = sym (rule_1 _ _ c.in-1.is)
 
-pub returns-then-nearest-count : goal.returns-then-nearest-count
-returns-then-nearest-count c =
-    let size = counted c.args.gears c.args.count (search rules) c.requires in
-    let f = c.nearest_place-nearest.ensures in
-    ap (One 2) f ∙ sym (rule_2 _ (take c.args.count c.args.gears) (omega (arith, size)) (omega (arith, f, size)))
+pub returns-in-Some : goal.returns-in-Some
+returns-in-Some c =
+    let is = below_some _ _ _ (sym c.nearest_place.ensures ∙ c.in-Some.is) in
+    ap (λ p. Some (One 2 p)) (sym is.0) ∙ sym (rule_2 _ _ (omega arith) (omega arith))
 
-pub returns : goal.returns
-returns c =
-    let size = counted c.args.gears c.args.count (search rules) c.requires in
-    let remaining = take c.args.count c.args.gears in
-    let f = c.nearest_place-nearest.ensures in
-    c.across.ensures ∙ ap (across_of c.args.reference.a_urban.0 remaining) c.j_place.ensures ∙ sym (rules_3_to_5 _ remaining (omega (arith, size)) (omega (arith, f, size)))
+pub returns-in-None : goal.returns-in-None
+returns-in-None c =
+    let past = below_none _ _ (sym c.nearest_place.ensures ∙ c.in-None.is) in
+    c.across.ensures ∙ sym (rules_3_to_5 _ _ (omega arith) past)

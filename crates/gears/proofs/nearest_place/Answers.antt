@@ -1,34 +1,33 @@
 -- Each gear is taken into account in its turn, and after the last the nearest is that of rule 2. Assumes nothing.
-use mathlib.Core.Path.{◌≡◌, sym}
-use native.Mathlib.Omega.{arith}
-use lib.ListN.{length, take}
-use borrow.Author.Rules.{rules}
-use Rattle.gears.proofs.Places.{counted, a_taken}
-use Rattle.gears.proofs.Nearest.{seen_start, seen_next, seen_all}
+use Rattle.std.proofs.Common.{rules, ◌≡◌, Bool, length, ℕ, Option, Some, None, sym, ◌∙◌, arith}
+use Rattle.std.specs.Bool.{IsTrue}
+use Rattle.std.specs.Option.{MatchOption, option_map}
+use lib.Dec.{ltb}
+use Rattle.gears.specs.declared.Best.{Best}
+use Rattle.gears.specs.Rules.{a, gear_at, empty_gear}
+use Rattle.gears.proofs.Nearest.{nearer_than, taken, passed, found}
 use Rattle.gears.proofs.nearest_place.Goals as goal
+use Rattle.gears.proofs.nearest_place.Goals.{then-is_near+then-is_none_or, else-is_near, else-is_near-via-then-is_near+else-is_none_or, else-is_near-via-else-is_near}
 
-pub loop-i-init : goal.loop-i-init
-loop-i-init c =
-    let s = c.args in
-    record {
-      within = omega arith;
-      seen = seen_start s.reference.a_ref.0 (take s.count s.gears) (omega arith) s.count (sym (counted s.gears s.count (search rules) c.requires));
-    }
+-- what `is_none_or` answers of the nearest so far
+by_best : (Q : Best → Type 0) (o : Option Best) (d : ℕ) (r : Bool) → MatchOption o (IsTrue r) Q → ((b : Best) → Q b → r ≡ ltb d b.distance.0) → nearer_than o d ≡ r
+by_best Q None d r h f = sym h
+by_best Q (Some b) d r h f = sym (f b h)
 
-pub loop-i-preserved : goal.loop-i-preserved
-loop-i-preserved c =
-    let l = c.loop-i in
-    let s = c.args in
-    let long : length s.gears ≡ 16 = search rules in
-    let inside = c.loop-i-test.true in
-    let next = seen_next s.reference.a_ref.0 (take s.count s.gears) (omega arith) l.i l.best (omega (arith, counted s.gears s.count long c.requires)) l.invariant.seen in
-    record { within = omega arith; seen = rw c.better-best.ensures (rw (a_taken s.gears s.count l.i inside) at next) }
+pub loop-place-preserved : goal.loop-place-preserved
+unfolding a gear_at empty_gear
+loop-place-preserved c =
+    let l = c.loop-place in
+    let R = c.args.reference.a_ref.0 in
+    let d = c.distance-d.result in
+    elim c.if-is_near.branch [
+      | then-is_near+then-is_none_or w ↦ rw w.best-is (taken R c.args.gears.now l.place l.best d (search rules) c.distance-d.ensures (by_best _ l.best d.0 _ w.is_none_or.ensures (λ b p. search rules) ∙ w.if-is_none_or.true) l.invariant)
+      | else-is_near w ↦ rw w.best-is (passed R c.args.gears.now l.place l.best d c.distance-d.ensures
+          (elim w.else-is_near.branch [
+            | else-is_near-via-then-is_near+else-is_none_or v ↦ simp (sym v.if-is_near.ensures, by_best _ l.best d.0 _ v.is_none_or.ensures (λ b p. search rules), v.if-is_none_or.false)
+            | else-is_near-via-else-is_near v ↦ simp (sym c.is_near.ensures, v.if-is_near.false)
+          ]) l.invariant)
+    ]
 
 pub returns : goal.returns
-returns c =
-    let l = c.loop-i in
-    let s = c.args in
-    let remaining = take s.count s.gears in
-    let long : length s.gears ≡ 16 = search rules in
-    let all : l.i ≡ length remaining = omega (arith, counted s.gears s.count long c.requires) in
-    sym (seen_all s.reference.a_ref.0 remaining (omega arith) l.best (rw all at l.invariant.seen))
+returns c = let place : c.map.result ≡ option_map (λ (b : Best). b.place) c.loop-place.best = search rules in let end : c.loop-place.place ≡ length c.args.gears.now = omega arith in place ∙ found _ _ _ (rw end at c.loop-place.invariant)

@@ -1,19 +1,21 @@
--- A call that was interrupted moved no byte, and the last answer says what the call moved.
-use Rattle.std.proofs.Common.{◌∙◌, sym, ℕ, subst}
-use Rattle.program.specs.Program.{transfer_of, Within}
-use Rattle.program.proofs.Answers.{read_within}
-use Rattle.program.proofs.Bytes.{took, interrupted_read}
+-- An interrupted call read nothing, and each call leaves the closure the references that it holds. Assumes nothing.
+use Rattle.std.proofs.Common.{rules, of_calls, ◌≡◌, sym, ◌∙◌}
+use Rattle.std.specs.Io.{ReadsAtMost}
+use Rattle.std.specs.Io.KnownBytes.{ReadConsumes}
+use Rattle.program.proofs.Retries.{retried_does}
+use Rattle.program.proofs.Bytes.{interrupted_read}
 use Rattle.program.proofs.read_piece.Goals as goal
 
-pub loop-preserved : goal.loop-preserved
-loop-preserved g c =
-    let again = c.read-got-in-loop in
-    (again.ensures.bound, interrupted_read _ _ _ _ _ c.loop.got again.result (sym c.if-not-interrupted.false ∙ c.interrupted.ensures) c.loop.invariant.1 again.ensures.bytes)
-
-pub returns-clause-within : goal.returns-clause-within
-returns-clause-within g c =
-    rw c.transfer_of.ensures
-    (subst (λ (n : ℕ). Within n (transfer_of c.loop.got)) (c.loop.auto.piece ∙ c.read-got.auto.buf) (read_within c.loop.piece c.loop.got c.loop.invariant.0))
-
-pub returns-clause-took : goal.returns-clause-took
-returns-clause-took g c = rw c.transfer_of.ensures (took _ _ c.loop.piece c.loop.got c.loop.invariant.1)
+pub returns : goal.returns
+returns g c =
+    let h =
+    retried_does _
+    (λ old r new. (new.0.ghost_name ≡ old.0.ghost_name) × (new.1.ghost_name ≡ old.1.ghost_name) × ReadsAtMost r new.1.now × ReadConsumes (g.R.Read.remaining old.0.now) (g.R.Read.remaining new.0.now) r new.1.now)
+    (λ old new r h. search (rules, of_calls))
+    (λ old mid new r s i p q. (q.0 ∙ p.0, q.1 ∙ p.1, q.2, interrupted_read _ _ _ _ _ r s (sym i) p.3 q.3))
+    _ _ _ c.retry.ensures in
+    let input = h.0 in
+    let piece = h.1 in
+    let bound = h.2 in
+    let bytes = h.3 in
+    record { within = search rules; took = search rules }

@@ -5,5 +5,5 @@ use Rattle.program.proofs.read_sheet.Goals as goal
 
 pub loop-at-preserved : goal.loop-at-preserved
 loop-at-preserved g c =
-    let r = c.in-Bytes.ensures in
-    (omega (arith, r.within), Consumes-on _ _ _ c.loop-at.at c.in-Bytes.n c.loop-at.sheet _ c.loop-at.invariant.1 r.kept r.took.0)
+    let r = c.in_ok-n.ensures in
+    (omega (arith, r.within), Consumes-on _ _ _ c.loop-at.at c.in_ok-n.n c.loop-at.sheet _ c.loop-at.invariant.1 r.kept r.took.0)

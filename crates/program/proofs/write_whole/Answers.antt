@@ -6,5 +6,5 @@ use Rattle.program.proofs.write_whole.Goals as goal
 
 pub loop-at-preserved : goal.loop-at-preserved
 loop-at-preserved g c =
-    let r = c.in-Bytes.ensures in
-    (omega (arith, simp (length-take, length-drop) at r.within), Appends-on _ _ _ c.loop-at.at c.in-Bytes.n c.args.bytes.now c.loop-at.invariant.1 (rw (take_rest c.args.bytes.now c.loop-at.at) at r.gave))
+    let r = c.in_ok-n.ensures in
+    (omega (arith, simp (length-take, length-drop) at r.within), Appends-on _ _ _ c.loop-at.at c.in_ok-n.n c.args.bytes.now c.loop-at.invariant.1 (rw (take_rest c.args.bytes.now c.loop-at.at) at r.gave))

@@ -1,32 +1,27 @@
 -- Each turn stores a space and a number behind what stands there, and the line feed ends the line. Assumes nothing.
-use mathlib.Core.Path.{◌≡◌, refl, sym, ap, ◌∙◌}
+use mathlib.Core.Path.{◌≡◌, sym, ap, ◌∙◌}
 use mathlib.Core.List.{List, [], ◌∷◌, ◌++◌}
 use Prim.Native.Nat.{ℕ, ◌+◌}
 use native.Mathlib.Omega.{arith}
 use lib.ListN.{length, take, get_or, length-append}
 use lib.Seq.{sets}
-use Rattle.text.specs.Text.{digits_of, spaced, line_with}
+use Rattle.text.specs.Text.{decimal_of, spaced, line_with}
 use Rattle.text.proofs.Digits.{one_more, all_of, parted}
 use Rattle.text.proofs.Stores.{behind, front}
 use Rattle.text.proofs.put_line.Goals as goal
 
-pub loop-n-init : goal.loop-n-init
-unfolding spaced
-loop-n-init c = record { within = omega arith; most = omega arith; size = omega arith; bytes = refl }
-
-pub loop-n-preserved : goal.loop-n-preserved
-loop-n-preserved c =
-    let l = c.loop-n in
+pub loop-number-preserved : goal.loop-number-preserved
+loop-number-preserved c =
+    let l = c.loop-number in
     let w = c.put_word-end in
     let numbers = c.args.numbers.now in
-    let text = spaced [] (take l.n numbers) in
-    let number = digits_of 20 (get_or numbers l.n 0) in
-    let more = one_more [] numbers l.n (omega arith) in
+    let text = spaced [] (take l.number-index numbers) in
+    let number = decimal_of (get_or numbers l.number-index 0) in
+    let more = one_more [] numbers l.number-index (omega arith) in
     let space = c.put-end in
-    let digits = c.put_digits-end in
+    let digits = c.put_number-end in
     let spaced_off = length-append text (32 ∷ []) in
     record {
-      within = omega arith;
       most = omega arith;
       size = rw (more, length-append (text ++ (32 ∷ [])) number) (omega arith);
       bytes =
@@ -40,18 +35,18 @@ pub returns-clause-size : goal.returns-clause-size
 returns-clause-size c =
     let word = c.args.word.now in
     let numbers = spaced [] c.args.numbers.now in
-    let last : c.loop-n.end ≡ c.put_word-end.result + length numbers = rw (all_of [] c.args.numbers.now c.loop-n.n (omega arith)) at c.loop-n.invariant.size in
+    let last : c.loop-number.end ≡ c.put_word-end.result + length numbers = rw (all_of [] c.args.numbers.now c.loop-number.number-index (omega arith)) at c.loop-number.invariant.size in
     rw (parted word c.args.numbers.now, length-append word (numbers ++ (10 ∷ [])), length-append numbers (10 ∷ [])) (omega arith)
 
 pub returns-clause-bytes : goal.returns-clause-bytes
 returns-clause-bytes c =
-    let l = c.loop-n in
+    let l = c.loop-number in
     let w = c.put_word-end in
     let word = c.args.word.now in
     let out = c.args.out.now in
     let numbers = spaced [] c.args.numbers.now in
     let text = line_with word c.args.numbers.now in
-    let all = all_of [] c.args.numbers.now l.n (omega arith) in
+    let all = all_of [] c.args.numbers.now l.number-index (omega arith) in
     let last : l.end ≡ w.result + length numbers = rw all at l.invariant.size in
     let size : length text ≡ c.put.result = rw (parted word c.args.numbers.now, length-append word (numbers ++ (10 ∷ [])), length-append numbers (10 ∷ [])) (omega arith) in
     c.put.ensures.written

@@ -10,8 +10,8 @@ use Rattle.window.proofs.condition_level.Goals as goal
 
 pub overflow_cast-result : goal.overflow_cast-result
 unfolding rounded
-overflow_cast-result c = omega (arith, c.round.ensures, rounded_rising c.larger.result 4 262140 4 (lit< tt) (lit< tt) (omega (arith, c.larger.ensures, c.sum-left.ensures.1, c.sum-right.ensures.1)))
+overflow_cast-result c = omega (arith, c.round.ensures, rounded_rising c.max.result 4 262140 4 (lit< tt) (lit< tt) (omega (arith, c.max.ensures, c.sum-left.ensures.1, c.sum-right.ensures.1)))
 
 pub returns : goal.returns
 unfolding condition_level larger_sum
-returns c = c.round.ensures ∙ ap (λ (n : ℕ). rounded n 4) (c.larger.ensures ∙ ap₂ max c.sum-left.ensures.0 c.sum-right.ensures.0)
+returns c = c.round.ensures ∙ ap (λ (n : ℕ). rounded n 4) (c.max.ensures ∙ ap₂ max c.sum-left.ensures.0 c.sum-right.ensures.0)

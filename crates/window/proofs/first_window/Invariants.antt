@@ -1,10 +1,9 @@
--- The loop of `window::first_window`: before each turn no four neighbours before place i fit, and its measure is how many places are left.
-use Prim.Native.Nat.{◌-◌}
-use Rattle.window.proofs.Searches.{Reached}
+-- The loop of `window::first_window`: no four neighbours before place i fit.
+use mathlib.Core.Path.{◌≡◌}
+use mathlib.Core.Bool.{false}
+use Prim.Native.Nat.{ℕ, ◌<◌}
+use Rattle.window.specs.Windows.{fitting, four_at}
 use Rattle.window.proofs.first_window.Given as goal
 
 abbrev pub invariant-loop-i : goal.invariant-loop-i
-invariant-loop-i l = Reached l.runs l.i
-
-abbrev pub decreases-loop-i : goal.decreases-loop-i
-decreases-loop-i l = l.end - l.i
+invariant-loop-i l = (k : ℕ) → k < l.i → fitting (four_at l.runs k) ≡ false
