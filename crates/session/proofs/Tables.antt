@@ -6,7 +6,7 @@ use Prim.Native.Nat.{ℕ, zero, suc, ◌+◌, ◌-◌, ◌≤◌, ◌<◌}
 use native.Mathlib.Nat.{zero-add, le_antisymm}
 use native.Mathlib.Numerals.{add-one}
 use native.Mathlib.Omega.{arith}
-use lib.ListN.{length, take, set, replicate, length-append}
+use lib.ListN.{length, take, set, replicate, length-append, length-map}
 use lib.Seq.{set_at, take_at, append_snoc}
 use lib.Dec.{ltb}
 use borrow.Author.Tests.{lt-ltb, le-ltb, ltb-false}
@@ -238,7 +238,9 @@ unfolding table_of
 entries_in_table t = taken empty_entry (entries_of t)
 
 pub record Tabled (t : Session) (r : Table) : Type 0 where
-  pub few : length (entries_in r) ≤ 16
+  pub without_window_is : r.without_window ≡ without_window t
+  pub few : r.count ≤ 16
+  pub counted : length (gears_in r) ≡ r.count
   pub gears : without_window t ≡ None → gears_in r ≡ gears_of t
   pub windows : without_window t ≡ None → windows_in r ≡ windows_of t
 
@@ -250,11 +252,14 @@ all_places t =
     (λ l e. absurd (cc))
     (λ l e. le_antisymm (no_window_most t) (ltb-false (lowest_no_window t) 16 l))
 
-pub tabled : (t : Session) (r : Table) → entries_in r ≡ entries_of t → Tabled t r
-unfolding entries_of gears_of windows_of remaining
-tabled t r e =
+pub tabled : (t : Session) → Tabled t (table_of t)
+unfolding table_of entries_of gears_of windows_of remaining
+tabled t =
+    let e = entries_in_table t in
     record {
-      few = omega (arith, ap length e, few_remain t 0 (lowest_no_window t), no_window_most t);
+      without_window_is = refl;
+      few = omega (arith, few_remain t 0 (lowest_no_window t), no_window_most t);
+      counted = length-map (entries_in (table_of t)) (λ (x : Entry). x.gear) ∙ ap length e;
       gears = λ h. ap (map (λ (x : Entry). x.gear)) e ∙ rw (all_places t h);
       windows = λ h. ap (map (λ (x : Entry). x.window)) e ∙ rw (all_places t h);
     }
