@@ -92,7 +92,7 @@ fn decide_table(
 }
 
 // Rows 6 to 10, for this PMR, in tenths, and a limit.
-#[tactic(auto, using(crate::proofs::Decisions::no_pmr, crate::proofs::Decisions::its_pmr, crate::proofs::Decisions::row_6, crate::proofs::Decisions::row_7_none, crate::proofs::Decisions::row_7_gear))]
+#[tactic(auto, using(crate::proofs::Decisions::no_pmr, crate::proofs::Decisions::its_pmr, crate::proofs::Decisions::row_6, crate::proofs::Decisions::row_7_none, crate::proofs::Decisions::row_7_gear), unfolding(session::specs::Session::table_of))]
 fn decide_whole(session: &Session<'_>, pmr: u32, limit: u16) -> Result<Judged, Refusal>
     ensures { result ≡ decide_whole session.now pmr limit }
 {

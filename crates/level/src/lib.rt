@@ -47,11 +47,17 @@ pub fn reading_at(kind: u8, s: &[u8], at: usize) -> Option<Reading>
     ensures { result ≡ reading_of kind (number s.now at 4) }
 {
     let pattern = units::number32(s, at);
-    match kind {
-        0 if pattern == 0 => Some(Reading::Absent),
-        1 => level_of(pattern).map(Reading::Level),
-        2 => level_of(pattern).map(Reading::Overload),
-        _ => None,
+    if kind == 0 {
+        return (pattern == 0).then_some(Reading::Absent);
+    }
+    if kind > 2 {
+        return None;
+    }
+    let x = level_of(pattern)?;
+    if kind == 1 {
+        Some(Reading::Level(x))
+    } else {
+        Some(Reading::Overload(x))
     }
 }
 

@@ -2,8 +2,8 @@
 // lorry to it, and the band about it. Nothing is rounded.
 #![tactic(auto)]
 
-ghost use Rattle.std.specs.Prelude.{◌≡◌, ◌+◌, ◌≤◌, false};
-ghost use Rattle.lorry.specs.TestMass.{kg, driver, target_of, unladen_of, permitted_of, overloaded, is_negative, extra, two_axles_mass, more_axles_mass, masses_of, loading_of, two_axles_of, more_axles_of, number_of, place_of};
+ghost use Rattle.std.specs.Prelude.{◌≡◌, ◌+◌, ◌≤◌};
+ghost use Rattle.lorry.specs.TestMass.{kg, driver, target_of, unladen_of, permitted_of, overloaded, is_negative, extra, two_axles_mass, more_axles_mass, masses_of, two_axles_of, more_axles_of, number_of, place_of};
 
 use refusal::Numbered;
 
@@ -153,34 +153,26 @@ fn masses_of(mass: KgHundredths, load: KgHundredths) -> Masses
     }
 }
 
-// What is given of a test mass and the unladen mass that it is made of, or that the rear axle is overloaded, which is asked first.
-#[tactic(auto, unfolding(crate::specs::TestMass::loading_of))]
-fn loading_of(
-    lorry: TwoAxles,
-    mass: KgHundredths,
-    unladen: KgHundredths,
-) -> Result<Masses, RearOverloaded>
-    requires { overloaded lorry ≡ false → driver + unladen.0 ≤ mass.0 }
-    ensures { result ≡ loading_of lorry mass.0 unladen.0 }
+// The test mass of a lorry of two axles, from any four numbers.
+#[tactic(auto, using(crate::proofs::Cases::two_axles_largest, crate::proofs::Refused::fits), unfolding(crate::specs::TestMass::loading_of, crate::specs::TestMass::two_axles_of))]
+pub fn two_axles(lorry: TwoAxles) -> Result<Masses, RearOverloaded>
+    ensures { result ≡ two_axles_of lorry }
 {
     if overloaded(lorry) {
         return Err(RearOverloaded);
     }
-    Ok(masses_of(mass, extra(mass, unladen)))
-}
-
-// The test mass of a lorry of two axles, from any four numbers.
-#[tactic(auto, using(crate::proofs::Cases::two_axles_largest, crate::proofs::Refused::fits), unfolding(crate::specs::TestMass::two_axles_of))]
-pub fn two_axles(lorry: TwoAxles) -> Result<Masses, RearOverloaded>
-    ensures { result ≡ two_axles_of lorry }
-{
-    loading_of(lorry, two_axles_mass(lorry), unladen_of(lorry))
+    let mass = two_axles_mass(lorry);
+    Ok(masses_of(mass, extra(mass, unladen_of(lorry))))
 }
 
 // The test mass of a lorry of more axles, from its stand-in and its own unladen mass in kg, any five numbers.
-#[tactic(auto, using(crate::proofs::Cases::more_axles_larger), unfolding(crate::specs::TestMass::more_axles_of))]
+#[tactic(auto, using(crate::proofs::Cases::more_axles_larger), unfolding(crate::specs::TestMass::loading_of, crate::specs::TestMass::more_axles_of))]
 pub fn more_axles(stand_in: TwoAxles, own: u16) -> Result<Masses, RearOverloaded>
     ensures { result ≡ more_axles_of stand_in own }
 {
-    loading_of(stand_in, more_axles_mass(stand_in, own), kg(own))
+    if overloaded(stand_in) {
+        return Err(RearOverloaded);
+    }
+    let mass = more_axles_mass(stand_in, own);
+    Ok(masses_of(mass, extra(mass, kg(own))))
 }

@@ -18,11 +18,11 @@ use Rattle.motorcycle.specs.Causes.{Cause}
 -- ---- what the numbers of the definition say of the four levels and the two sides
 
 module _ (x : Levels) {r : ℕ} where
-  is_first_outside : r ≡ first_outside x → r ≤ 4 → FirstOf (outside x) 4 1 r
+  pub is_first_outside : r ≡ first_outside x → r ≤ 4 → FirstOf (outside x) 4 1 r
   unfolding first_outside
   is_first_outside e h = rw e (lowest_is_first (outside x) 4 1 (omega arith))
 
-  none_outside : r ≡ first_outside x → 4 < r → NoneOf (outside x) 4 1
+  pub none_outside : r ≡ first_outside x → 4 < r → NoneOf (outside x) 4 1
   unfolding first_outside
   none_outside e h = lowest_by_none (outside x) 4 1 (omega arith)
 

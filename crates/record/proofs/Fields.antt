@@ -1,17 +1,18 @@
 -- Laws of the tests of a record's fields. Assumes nothing.
 use mathlib.Core.Path.{◌≡◌, refl, sym, ◌∙◌}
-use mathlib.Core.Bool.{Bool, true, false}
-use mathlib.Core.List.{List}
+use mathlib.Core.Bool.{Bool, true, false, ◌&&◌}
+use mathlib.Core.List.{List, [], ◌∷◌, ◌++◌}
 use Prim.Native.Nat.{ℕ, zero, suc, ◌+◌, ◌≤◌, ◌<◌}
 use native.Mathlib.Omega.{arith}
 use lib.Dec.{T, leb, eqb, leb→le}
 use lib.Ieee.Fits.{and_l, and_r}
-use lib.ListN.{length, get_or, take, drop, length-take, length-drop}
-use lib.Seq.{get_or-take, get_or-drop}
+use lib.ListN.{length, get_or, take, drop, length-take, length-drop, length-append, get_or-append}
+use lib.Seq.{get_or-take, get_or-drop, get_or-append_seam}
 use mathlib.Core.Logic.{◌↔◌}
 use borrow.Author.Tests.{eqb-true, eq-eqb}
 use Rattle.std.specs.List.{All}
 use Rattle.std.proofs.lemmas.List.{get_or_default}
+use Rattle.std.proofs.lemmas.List.Elements.{All-push}
 use Rattle.units.proofs.Tests.{both}
 use Rattle.record.specs.Records.{byte, within, zeros}
 
@@ -51,6 +52,16 @@ zeros_decided b r at count long h = by b (zeros r at count) to from
     by true q f g = sym (f refl)
     by false false f g = refl
     by false true f g = g refl
+
+-- one byte more that is zero, or is not
+pub zero_more : (ok next : Bool) (xs : List ℕ) (x : ℕ) → next ≡ (ok && eqb x 0) → (ok ≡ true) ↔ All (λ (y : ℕ). y ≡ 0) xs → (next ≡ true) ↔ All (λ (y : ℕ). y ≡ 0) (xs ++ (x ∷ []))
+zero_more ok next xs x e h = (
+  λ t. let b = both ok (eqb x 0) (sym e ∙ t) in All-push (λ (y : ℕ). y ≡ 0) xs x (h.0 b.0) (eqb-true x 0 b.1),
+  λ all. let long : length (xs ++ (x ∷ [])) ≡ length xs + 1 = length-append xs (x ∷ []) in
+      let before : ok ≡ true = h.1 (λ k d l. sym (get_or-append xs (x ∷ []) d k l) ∙ all k d (omega (arith, long))) in
+      let last : x ≡ 0 = sym (get_or-append_seam xs x [] 0) ∙ all (length xs) 0 (omega (arith, long)) in
+      rw (before, eq-eqb x 0 last) at e,
+)
 
 -- ---- what a test says of a number
 

@@ -65,12 +65,12 @@ fn word_within(r: &[u8], at: usize, low: u16, high: u16) -> bool
     (low <= w) & (w <= high)
 }
 
-// Whether the bytes from `at` to before `end` are zero.
+// Whether the bytes from `at` to before `end` are zero. All are read, so that the loop has no branch in it.
 fn blank(r: &[u8], at: usize, end: usize) -> bool
     requires { (at ≤ end) × (end ≤ length r.now) }
     ensures { result ≡ zeros r.now at (end - at) }
 {
-    r[at..end].iter().all(|&b| b == 0)
+    r[at..end].iter().fold(true, |ok, &b| ok & (b == 0))
 }
 
 // ---- the backgrounds of a record

@@ -1,12 +1,13 @@
 -- The gears that remain, place by place, and the table of them. Assumes nothing.
 use Rattle.std.specs.Prelude.{Option, Some, None, Result, Ok, Err}
 use mathlib.Core.Path.{◌≡◌, refl, sym, ap, ◌∙◌}
-use mathlib.Core.List.{List, [], ◌++◌, map, append-nil}
+use mathlib.Core.List.{List, [], ◌∷◌, ◌++◌, map, append-nil}
 use Prim.Native.Nat.{ℕ, zero, suc, ◌+◌, ◌-◌, ◌≤◌, ◌<◌}
 use native.Mathlib.Nat.{zero-add, le_antisymm}
 use native.Mathlib.Numerals.{add-one}
 use native.Mathlib.Omega.{arith}
-use lib.ListN.{length}
+use lib.ListN.{length, take, set, replicate, length-append, length-map}
+use lib.Seq.{set_at, take_at, append_snoc}
 use lib.Dec.{ltb}
 use borrow.Author.Tests.{lt-ltb, le-ltb, ltb-false}
 use mathlib.Core.Bool.{Bool, true, false}
@@ -24,7 +25,7 @@ use Rattle.session.specs.declared.State.{State}
 use Rattle.session.specs.declared.State.TheVariants.{Remains, Dropped, NoWindow, NoRun}
 use Rattle.session.specs.declared.WithoutWindow.{WithoutWindow}
 use Rattle.session.specs.declared.Table.{Table}
-use Rattle.session.specs.Session.{Session, window_in, shortage_in, slow_enough, by_window, state_of, has_no_window, lowest_no_window, without_window, with_remaining, remaining_from, remaining, gears_of, windows_of, entries_of, gears_in, windows_in}
+use Rattle.session.specs.Session.{Session, window_in, shortage_in, slow_enough, by_window, state_of, has_no_window, lowest_no_window, without_window, with_remaining, remaining_from, remaining, gears_of, windows_of, entries_of, empty_entry, stored, table_of, entries_in, gears_in, windows_in}
 
 -- ---- one place more
 
@@ -158,9 +159,88 @@ module _ (t : Session) where
   unfolding entries_of
   entries_are entries gear e r = r.so_far ∙ ap (remaining_from t 0) (sym e)
 
--- what a table says of its session
+-- ---- the entries, stored in an array
+
+module _ {A : Type 0} (filler : A) where
+  store : (xs : List A) (x : A) (count : ℕ) → length xs ≡ count → count < 16 → set (stored filler xs) count x ≡ stored filler (xs ++ (x ∷ []))
+  store xs x count e h =
+      let room : 16 - length xs ≡ suc (16 - (length xs + 1)) = omega arith in
+      ap (λ (n : ℕ). set (xs ++ replicate n filler) count x) room
+      ∙ set_at xs filler (replicate (16 - (length xs + 1)) filler) x count e
+      ∙ sym (append_snoc xs x (replicate (16 - (length xs + 1)) filler))
+      ∙ ap (λ (n : ℕ). xs ++ (x ∷ []) ++ replicate (16 - n) filler) (sym (length-append xs (x ∷ [])))
+
+  taken : (xs : List A) → take (length xs) (stored filler xs) ≡ xs
+  taken xs = take_at xs _ (length xs) refl
+
+-- the array and the count before this gear
+pub record Tabling (t : Session) (entries : List Entry) (count gear : ℕ) : Type 0 where
+  pub none : Passed (missing t) 16 (gear - 1)
+  pub stored_are : entries ≡ stored empty_entry (remaining_from t 0 (gear - 1))
+  pub count_is : count ≡ length (remaining_from t 0 (gear - 1))
+
+module _ (t : Session) where
+  ready : (entries : List Entry) (count gear : ℕ) → Tabling t entries count gear → Ready t (remaining_from t 0 (gear - 1)) gear
+  ready entries count gear r = record { none = r.none; so_far = refl }
+
+  pub tabling_start : Tabling t (replicate 16 empty_entry) 0 1
+  unfolding remaining_from
+  tabling_start = record { none = passed_start (missing t) 16; stored_are = refl; count_is = refl }
+
+  pub count_most : (entries : List Entry) (count gear : ℕ) → Tabling t entries count gear → count ≤ gear - 1
+  count_most entries count gear r = omega (arith, r.count_is, few_remain t 0 (gear - 1))
+
+  module _ (entries : List Entry) (count gear : ℕ) (first : 1 ≤ gear) (last : gear ≤ 16) where
+    -- a gear that remains is stored behind those before it
+    pub tabling_remains : (e : Entry) → state_of t gear ≡ Remains e → Tabling t entries count gear → Tabling t (set entries count e) (count + 1) (gear + 1)
+    tabling_remains e is r =
+        let before = remaining_from t 0 (gear - 1) in
+        let next = ready_next t before gear first last (Remains e) is refl (ready entries count gear r) in
+        record {
+          none = next.none;
+          stored_are =
+              ap (λ (l : List Entry). set l count e) r.stored_are
+              ∙ store empty_entry before e count (sym r.count_is) (omega (arith, count_most entries count gear r))
+              ∙ ap (stored empty_entry) next.so_far;
+          count_is = ap (λ (n : ℕ). n + 1) r.count_is ∙ sym (length-append before (e ∷ [])) ∙ ap length next.so_far;
+        }
+
+    -- a gear of any other state adds nothing
+    pub tabling_other : (x : State) → has_no_window x ≡ false → with_remaining x [] ≡ [] → state_of t gear ≡ x → Tabling t entries count gear → Tabling t entries count (gear + 1)
+    tabling_other x fine no_entry is r =
+        let next = ready_skip t (remaining_from t 0 (gear - 1)) gear first last x is fine no_entry (ready entries count gear r) in
+        record {
+          none = next.none;
+          stored_are = r.stored_are ∙ ap (stored empty_entry) next.so_far;
+          count_is = r.count_is ∙ ap length next.so_far;
+        }
+
+  -- the lowest gear without a window is this one, or there is none up to the last
+  pub tabled_stop : (entries : List Entry) (count gear : ℕ) → 1 ≤ gear → gear ≤ 16 → (x : State) → state_of t gear ≡ x → has_no_window x ≡ true → Tabling t entries count gear → lowest_no_window t ≡ gear - 1
+  tabled_stop entries count gear first last x is none r = ready_stop t (remaining_from t 0 (gear - 1)) gear first last x is none (ready entries count gear r)
+
+  pub tabled_end : (entries : List Entry) (count gear : ℕ) → 16 < gear → Tabling t entries count gear → lowest_no_window t ≡ gear - 1
+  tabled_end entries count gear h r = ready_end t (remaining_from t 0 (gear - 1)) gear h (ready entries count gear r)
+
+  -- up to the lowest gear without a window, or to the last, it is the table
+  pub table_is : (entries : List Entry) (count gear : ℕ) (w : Option WithoutWindow) → lowest_no_window t ≡ gear - 1 → w ≡ without_window t → Tabling t entries count gear → record { entries = entries; count = count; without_window = w } ≡ table_of t
+  unfolding table_of
+  table_is entries count gear w e is r =
+      let all = entries_are t (remaining_from t 0 (gear - 1)) gear e (ready entries count gear r) in
+      let these : entries ≡ stored empty_entry (entries_of t) = r.stored_are ∙ ap (stored empty_entry) all in
+      let those : count ≡ length (entries_of t) = r.count_is ∙ ap length all in
+      cc
+
+-- ---- what a table says of its session
+
+pub entries_in_table : (t : Session) → entries_in (table_of t) ≡ entries_of t
+unfolding table_of
+entries_in_table t = taken empty_entry (entries_of t)
+
 pub record Tabled (t : Session) (r : Table) : Type 0 where
-  pub few : length r.entries.items ≤ 16
+  pub without_window_is : r.without_window ≡ without_window t
+  pub few : r.count ≤ 16
+  pub counted : length (gears_in r) ≡ r.count
   pub gears : without_window t ≡ None → gears_in r ≡ gears_of t
   pub windows : without_window t ≡ None → windows_in r ≡ windows_of t
 
@@ -172,11 +252,14 @@ all_places t =
     (λ l e. absurd (cc))
     (λ l e. le_antisymm (no_window_most t) (ltb-false (lowest_no_window t) 16 l))
 
-pub tabled : (t : Session) (r : Table) → r.entries.items ≡ entries_of t → Tabled t r
-unfolding entries_of gears_of windows_of remaining
-tabled t r e =
+pub tabled : (t : Session) → Tabled t (table_of t)
+unfolding table_of entries_of gears_of windows_of remaining
+tabled t =
+    let e = entries_in_table t in
     record {
-      few = omega (arith, ap length e, few_remain t 0 (lowest_no_window t), no_window_most t);
+      without_window_is = refl;
+      few = omega (arith, few_remain t 0 (lowest_no_window t), no_window_most t);
+      counted = length-map (entries_in (table_of t)) (λ (x : Entry). x.gear) ∙ ap length e;
       gears = λ h. ap (map (λ (x : Entry). x.gear)) e ∙ rw (all_places t h);
       windows = λ h. ap (map (λ (x : Entry). x.window)) e ∙ rw (all_places t h);
     }

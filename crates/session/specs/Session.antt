@@ -1,17 +1,18 @@
 -- The gears of a session (document 01, row 7 of the refusals, and "Gears"; document 02, wish 5): which have no window and why, which are dropped, and
 -- which remain, each with its acceleration and its acceleration window.
-use Rattle.std.specs.Prelude.{Bool, true, false, cond, ◌&&◌, Option, Some, None, Result, Ok, Err, List, [], ◌∷◌, map, ℕ, zero, suc, ◌+◌, leb, ltb, length}
+use Rattle.std.specs.Prelude.{Bool, true, false, cond, ◌&&◌, Option, Some, None, Result, Ok, Err, List, [], ◌∷◌, ◌++◌, map, ℕ, zero, suc, ◌+◌, ◌-◌, leb, ltb, length, take, replicate}
 use Rattle.units.specs.Tests.{lowest}
 use Rattle.refusal.specs.declared.Shortage.{Shortage}
 use Rattle.record.specs.declared.RunKind.{RunKind}
 use Rattle.record.specs.declared.RunKind.TheVariants.{Acceleration}
 use Rattle.sheet.specs.Sheet.{has_acceleration}
 use Rattle.window.specs.declared.Four.{Four}
-use Rattle.window.specs.Windows.{shortage_of}
+use Rattle.window.specs.Windows.{empty_four, shortage_of}
 use Rattle.valid_runs.specs.declared.Condition.{Condition}
 use Rattle.valid_runs.specs.ValidRuns.{rest_of, window_of}
 use Rattle.gears.specs.declared.Gear.{Gear}
 use Rattle.gears.specs.Acceleration.{acceleration_of, mean_of}
+use Rattle.gears.specs.Rules.{empty_gear}
 use Rattle.session.specs.declared.Track.{Track}
 use Rattle.session.specs.declared.Entry.{Entry}
 use Rattle.session.specs.declared.State.{State}
@@ -108,9 +109,28 @@ windows_of t = map (λ (e : Entry). e.window) (remaining t)
 unfoldable pub entries_of : Session → List Entry
 entries_of t = remaining_from t 0 (lowest_no_window t)
 
--- the gears and the windows of a table
+-- what stands behind the entries
+unfoldable pub empty_entry : Entry
+empty_entry = record { gear = empty_gear; window = empty_four }
+
+-- a list at the front of an array of 16, and fillers behind it
+abbrev pub stored : {A : Type 0} → A → List A → List A
+stored filler xs = xs ++ replicate (16 - length xs) filler
+
+unfoldable pub table_of : Session → Table
+table_of t =
+    record {
+      entries = stored empty_entry (entries_of t);
+      count = length (entries_of t);
+      without_window = without_window t;
+    }
+
+-- the entries of a table, and their gears and windows
+abbrev pub entries_in : Table → List Entry
+entries_in r = take r.count r.entries
+
 abbrev pub gears_in : Table → List Gear
-gears_in r = map (λ (e : Entry). e.gear) r.entries.items
+gears_in r = map (λ (e : Entry). e.gear) (entries_in r)
 
 abbrev pub windows_in : Table → List Four
-windows_in r = map (λ (e : Entry). e.window) r.entries.items
+windows_in r = map (λ (e : Entry). e.window) (entries_in r)

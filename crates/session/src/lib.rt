@@ -1,15 +1,14 @@
 // A session's gears: from a whole sheet to what becomes of each gear, and the table of those that remain. Which of them are chosen is not decided here.
 #![tactic(auto)]
 
-ghost use Rattle.std.specs.Prelude.{◌≡◌, ◌≤◌, ◌<◌, get_or};
-ghost use Rattle.arrayvec.specs.ArrayVec.{array_vec_len};
+ghost use Rattle.std.specs.Prelude.{◌≡◌, ◌≤◌, ◌<◌, length, get_or};
 ghost use Rattle.record.specs.declared.RunKind.TheVariants.{Acceleration};
 ghost use Rattle.sheet.specs.Sheet.{RunsGood, any_acceleration, has_acceleration};
 ghost use Rattle.window.specs.Windows.{Each, empty_four};
 ghost use Rattle.valid_runs.specs.ValidRuns.{NotSlower};
 ghost use Rattle.gears.specs.Rules.{gear_at};
 ghost use Rattle.session.specs.Session as spec;
-ghost use Rattle.session.specs.Session.{session_of, condition_of, window_in, slow_enough, gear_acceleration, by_window, state_of, entries_of, without_window, gears_in, windows_in};
+ghost use Rattle.session.specs.Session.{session_of, condition_of, window_in, slow_enough, gear_acceleration, by_window, state_of, table_of, entries_in, gears_in, windows_in};
 
 use arrayvec::ArrayVec;
 use gears::Gear;
@@ -88,21 +87,29 @@ pub struct WithoutWindow {
     pub shortage: Shortage,
 }
 
-// The gears that remain, in rising number, and the lowest gear with acceleration runs and no window. If there is such a gear, the entries are those
-// of the gears below it.
-#[derive(Drop)]
+// The gears that remain, in rising number: the first `count` of the entries. With them the lowest gear with acceleration runs and no window. If
+// there is such a gear, the entries are those of the gears below it.
+#[derive(Clone, Copy)]
 pub struct Table {
-    pub entries: ArrayVec<Entry, 16>,
+    pub entries: [Entry; 16],
+    pub count: usize,
     pub without_window: Option<WithoutWindow>,
 }
 
 impl Table {
+    // Its entries.
+    fn stored(&self) -> &[Entry]
+        ensures { result.now ≡ entries_in self.now }
+    {
+        &self.entries[..self.count.min(16)]
+    }
+
     // The gears of the entries, in their order.
     pub fn gears(&self) -> ArrayVec<Gear, 16>
         ensures { result.items ≡ gears_in self.now }
     {
         let mut gears = ArrayVec::new();
-        for entry in self.entries.as_slice() {
+        for entry in self.stored() {
             gears.push(entry.gear);
         }
         gears
@@ -111,11 +118,11 @@ impl Table {
     // The entry at a place.
     #[tactic(auto, unfolding(gears::specs::Rules::gear_at))]
     pub fn entry(&self, place: usize) -> Entry
-        requires { place < array_vec_len self.now.entries }
+        requires { place < length (gears_in self.now) }
         ensures gear { result.gear ≡ gear_at (gears_in self.now) place }
         ensures window { result.window ≡ get_or (windows_in self.now) place empty_four }
     {
-        self.entries[place]
+        self.stored()[place]
     }
 }
 
@@ -195,17 +202,21 @@ impl<'a> Session<'a> {
     // The gears that remain, and the lowest one without a window.
     #[tactic(auto, using(sheet::proofs::Presence::present_at))]
     pub fn table(&self) -> Table
-        ensures entries { result.entries.items ≡ entries_of self.now }
-        ensures without_window { result.without_window ≡ without_window self.now }
+        ensures { result ≡ table_of self.now }
     {
         let seen = self.sheet.present();
-        let mut entries = ArrayVec::new();
+        let mut entries = [Entry::default(); 16];
+        let mut count = 0;
         for gear in 1..=16 {
             match self.state_of(gear, seen[gear as usize]) {
-                State::Remains(entry) => entries.push(entry),
+                State::Remains(entry) => {
+                    entries[count] = entry;
+                    count += 1;
+                }
                 State::NoWindow(shortage) => {
                     return Table {
                         entries,
+                        count,
                         without_window: Some(WithoutWindow { gear, shortage }),
                     };
                 }
@@ -214,6 +225,7 @@ impl<'a> Session<'a> {
         }
         Table {
             entries,
+            count,
             without_window: None,
         }
     }

@@ -1,12 +1,21 @@
 -- Texts stored on a buffer one after another. Assumes nothing.
 use mathlib.Core.Path.{◌≡◌, sym, ap, ◌∙◌}
 use mathlib.Core.List.{List, [], ◌∷◌, ◌++◌}
-use Prim.Native.Nat.{ℕ, suc, ◌+◌, ◌≤◌}
+use Prim.Native.Nat.{ℕ, suc, ◌+◌, ◌≤◌, ◌<◌}
 use native.Mathlib.Nat.{zero-add}
+use native.Mathlib.Numerals.{add-one}
 use native.Mathlib.Omega.{arith}
-use lib.ListN.{length, drop, set}
-use lib.Seq.{sets, sets-eq}
+use lib.ListN.{length, drop, get_or, set, drop_of_length-le}
+use lib.Seq.{sets, sets-eq, drop-cons}
 use Rattle.text.specs.Text.{onto}
+
+-- ---- a word, byte by byte
+
+pub word_more : (d w : List ℕ) (n : ℕ) → n < length w → sets (set d n (get_or w n 0)) (n + 1) (drop (n + 1) w) ≡ sets d n (drop n w)
+word_more d w n h = rw (add-one n, drop-cons w n 0 h)
+
+pub word_done : (d w : List ℕ) (n : ℕ) → length w ≤ n → d ≡ sets d n (drop n w)
+word_done d w n h = rw (drop_of_length-le w h)
 
 -- ---- a text behind another
 

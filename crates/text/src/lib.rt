@@ -18,14 +18,16 @@ fn put(b: u8, out: &mut [u8], at: usize) -> usize
 }
 
 // The bytes of a word at the front of `out`; answers how many.
-#[tactic(auto, using(crate::proofs::Stores::front), unfolding(crate::specs::Text::onto))]
 fn put_word(word: &[u8], out: &mut [u8]) -> usize
     requires { length word.now ≤ length out.old }
     ensures end { result ≡ length word.now }
     ensures written { out.new ≡ sets out.old 0 word.now }
 {
-    out[..word.len()].copy_from_slice(word);
-    word.len()
+    let mut end = 0;
+    for byte in word {
+        end = put(*byte, out, end);
+    }
+    end
 }
 
 // The digits of n from `at` on, and the place after them.

@@ -7,7 +7,6 @@ use native.Mathlib.Numerals.{add-one}
 use native.Mathlib.Omega.{arith}
 use lib.ListN.{length, get_or}
 use Rattle.std.specs.Prelude.{Option, Some, None, Ok}
-use Rattle.record.specs.declared.RunKind.TheVariants.{Acceleration}
 use Rattle.record.specs.Records.{records, record_at, kind_byte}
 use Rattle.record.proofs.Layouts.{run_ranges}
 use Rattle.sheet.specs.Sheet.{RunsGood}
@@ -86,7 +85,7 @@ window_in_order s o f e =
 
 -- ---- the speeds of an acceleration run
 
-pub window_not_slower : (s : List ℕ) (o : Condition) (f : Four) → RunsGood s → o.kind ≡ Acceleration → window_of s o ≡ Ok f → Each NotSlower f
+pub window_not_slower : (s : List ℕ) (o : Condition) (f : Four) → RunsGood s → kind_byte o.kind ≡ 2 → window_of s o ≡ Ok f → Each NotSlower f
 window_not_slower s o f good k e =
     let m = window_members s o f e in
     record { a = of f.a m.a; b = of f.b m.b; c = of f.c m.c; d = of f.d m.d }
@@ -95,4 +94,4 @@ window_not_slower s o f good k e =
     of v m =
         let c = counts s o v.number v m.is in
         let r = run_ranges (record_at s v.number) (good.good v.number m.first (omega (arith, m.last, good.two))) in
-        record { order = omega (arith, c.start, c.end, r.rising (c.is_kind ∙ ap kind_byte k)); most = omega (arith, c.end, r.end.1) }
+        record { order = omega (arith, c.start, c.end, r.rising (c.is_kind ∙ k)); most = omega (arith, c.end, r.end.1) }

@@ -68,7 +68,11 @@ fn carry(runs: &mut ArrayVec<ValidRun, 16>)
     requires { array_vec_len runs.old ≡ 16 }
     ensures { runs.new.items ≡ drop 13 runs.old.items }
 {
-    runs.drain(..13);
+    let last = [runs[13], runs[14], runs[15]];
+    runs.clear();
+    runs.push(last[0]);
+    runs.push(last[1]);
+    runs.push(last[2]);
 }
 
 // The first window of a condition in a sheet, or why there is none. Runs that count are gathered 16 at a time. Once three were carried, there are

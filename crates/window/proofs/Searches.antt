@@ -1,21 +1,42 @@
--- What the first window is, and what it means that there is none. Assumes nothing.
+-- The search for the first window, place by place, and what is found. Assumes nothing.
 use mathlib.Core.Path.{◌≡◌, sym, ap, ◌∙◌}
 use mathlib.Core.Bool.{true, false}
 use mathlib.Core.List.{List}
-use Prim.Native.Nat.{ℕ, ◌+◌, ◌-◌, ◌<◌}
+use Prim.Native.Nat.{ℕ, ◌+◌, ◌-◌, ◌≤◌, ◌<◌}
 use native.Mathlib.Omega.{arith}
 use lib.ListN.{length}
 use lib.Dec.{ltb}
-use borrow.Author.Tests.{ltb-true, ltb-false}
+use borrow.Author.Tests.{lt-ltb, le-ltb, ltb-true, ltb-false}
 use Rattle.std.specs.Prelude.{Result, Ok, Err}
-use Rattle.units.proofs.Lowest.{Lowest, found}
+use Rattle.units.proofs.Lowest.{Lowest, found, Passed, passed_start, passed_next, passed_stop, passed_end}
 use Rattle.units.proofs.Tests.{by_test}
 use Rattle.refusal.specs.declared.Shortage.{Shortage}
 use Rattle.window.specs.declared.ValidRun.{ValidRun}
 use Rattle.window.specs.declared.Four.{Four}
 use Rattle.window.specs.Windows.{fitting, four_at, first_place, shortage_of, first_window}
 
--- What is found, for a reader to check: a window, and no earlier one; or nothing, and then there is none.
+module _ (rest : List ValidRun) where
+  -- nothing fits before place i
+  pub Reached : ℕ → Type 0
+  Reached i = Passed (λ k. fitting (four_at rest k)) (length rest - 3) i
+
+  pub reached_start : Reached 0
+  unfolding Reached
+  reached_start = passed_start (λ k. fitting (four_at rest k)) (length rest - 3)
+
+  pub reached_next : (i : ℕ) → i + 3 < length rest → fitting (four_at rest i) ≡ false → Reached i → Reached (i + 1)
+  unfolding Reached
+  reached_next i h e r = passed_next (λ k. fitting (four_at rest k)) (length rest - 3) i (omega arith) e r
+
+  pub found_here : (i : ℕ) → i + 3 < length rest → fitting (four_at rest i) ≡ true → Reached i → first_window rest ≡ Ok (four_at rest i)
+  unfolding Reached first_window first_place
+  found_here i h e r = simp (passed_stop (λ k. fitting (four_at rest k)) (length rest - 3) i (omega arith) e r, lt-ltb i (length rest - 3) (omega arith))
+
+  pub found_nowhere : (i : ℕ) → length rest ≤ i + 3 → Reached i → first_window rest ≡ Err (shortage_of (length rest))
+  unfolding Reached first_window first_place
+  found_nowhere i h r = simp (passed_end (λ k. fitting (four_at rest k)) (length rest - 3) i (omega arith) r, le-ltb i (length rest - 3) (omega arith))
+
+-- ---- what is found, for a reader to check: a window, and no earlier one; or nothing, and then there is none
 
 pub record FirstFound (rest : List ValidRun) (f : Four) : Type 0 where
   pub place : ℕ

@@ -1,46 +1,46 @@
 -- The entries of the gears passed are in the table, and each gear passed has a window. Assumes nothing.
-use Rattle.std.proofs.Common.{rules, refl, sym, ◌∙◌, arith}
+use Rattle.std.proofs.Common.{rules, ◌≡◌, refl, sym, ◌∙◌, arith}
 use mathlib.Core.Logic.{inl, inr}
-use Rattle.session.proofs.Tables.{ready_start, ready_next, ready_skip, ready_stop, ready_end, few_so_far, entries_are, without_at, without_none}
+use Rattle.window.specs.Windows.{empty_run, empty_four}
+use Rattle.gears.specs.Rules.{empty_gear}
+use Rattle.session.specs.Session.{empty_entry}
+use Rattle.session.proofs.Tables.{tabling_start, count_most, tabling_remains, tabling_other, table_is, tabled_stop, tabled_end, without_at, without_none}
 use Rattle.session.proofs.Session.table.Goals as goal
 use Rattle.session.proofs.Session.table.Goals.{in-Remains, in-Dropped}
 
 pub loop-gear-init : goal.loop-gear-init
-loop-gear-init c = rw c.new-entries.ensures (ready_start _)
+unfolding empty_entry empty_gear empty_four empty_run
+loop-gear-init c = let empty : c.default-entries.result ≡ empty_entry = search rules in rw empty (tabling_start _)
 
-pub push-requires : goal.push-requires
-push-requires c = let few = few_so_far _ _ _ c.loop-gear.invariant in search rules
+pub bounds-entries-count : goal.bounds-entries-count
+bounds-entries-count c = let few = count_most _ _ _ _ c.loop-gear.invariant in omega arith
 
-pub returns-in-NoWindow-clause-entries : goal.returns-in-NoWindow-clause-entries
-returns-in-NoWindow-clause-entries c =
+pub offset_bounds-entries-count : goal.offset_bounds-entries-count
+offset_bounds-entries-count c = let few = count_most _ _ _ _ c.loop-gear.invariant in search rules
+
+pub overflow_add-count : goal.overflow_add-count
+overflow_add-count c = let few = count_most _ _ _ _ c.loop-gear.invariant in search rules
+
+pub returns-in-NoWindow : goal.returns-in-NoWindow
+returns-in-NoWindow c =
     let l = c.loop-gear in
-    let here = ready_stop _ _ _ l.auto.gear c.loop-gear-test.true _ (sym c.in-NoWindow.ensures) refl l.invariant in
-    entries_are _ _ _ here l.invariant
-
-pub returns-in-NoWindow-clause-without_window : goal.returns-in-NoWindow-clause-without_window
-returns-in-NoWindow-clause-without_window c =
-    let l = c.loop-gear in
-    let here = ready_stop _ _ _ l.auto.gear c.loop-gear-test.true _ (sym c.in-NoWindow.ensures) refl l.invariant in
-    without_at _ _ _ l.auto.gear c.loop-gear-test.true here (sym c.in-NoWindow.ensures)
+    let state = sym c.in-NoWindow.ensures in
+    let here = tabled_stop _ _ _ l.gear l.auto.gear c.loop-gear-test.true _ state refl l.invariant in
+    table_is _ _ _ l.gear _ here (without_at _ _ _ l.auto.gear c.loop-gear-test.true here state) l.invariant
 
 pub loop-gear-preserved : goal.loop-gear-preserved
 loop-gear-preserved c =
     let l = c.loop-gear in
     elim c.match-state_of.branch [
-      | in-Remains w ↦ rw (w.entries-is, w.push.ensures.items) (ready_next _ _ _ l.auto.gear c.loop-gear-test.true _ (sym w.in-Remains.ensures) refl l.invariant)
-      | in-Dropped w ↦ rw w.entries-is (elim w.in-Dropped.is [
-        | inl e ↦ ready_skip _ _ _ l.auto.gear c.loop-gear-test.true _ (sym c.state_of.ensures ∙ e) refl refl l.invariant
-        | inr e ↦ ready_skip _ _ _ l.auto.gear c.loop-gear-test.true _ (sym c.state_of.ensures ∙ e) refl refl l.invariant
+      | in-Remains w ↦ rw (w.entries-is, w.count-is) (tabling_remains _ _ _ _ l.auto.gear c.loop-gear-test.true _ (sym w.in-Remains.ensures) l.invariant)
+      | in-Dropped w ↦ rw (w.entries-is, w.count-is) (elim w.in-Dropped.is [
+        | inl e ↦ tabling_other _ _ _ _ l.auto.gear c.loop-gear-test.true _ refl refl (sym c.state_of.ensures ∙ e) l.invariant
+        | inr e ↦ tabling_other _ _ _ _ l.auto.gear c.loop-gear-test.true _ refl refl (sym c.state_of.ensures ∙ e) l.invariant
       ])
     ]
 
-pub returns-clause-entries : goal.returns-clause-entries
-returns-clause-entries c =
+pub returns : goal.returns
+returns c =
     let l = c.loop-gear in
-    entries_are _ _ _ (ready_end _ _ _ c.loop-gear-test.false l.invariant) l.invariant
-
-pub returns-clause-without_window : goal.returns-clause-without_window
-returns-clause-without_window c =
-    let l = c.loop-gear in
-    let end = ready_end _ _ _ c.loop-gear-test.false l.invariant in
-    without_none _ (omega arith)
+    let here = tabled_end _ _ _ l.gear c.loop-gear-test.false l.invariant in
+    table_is _ _ _ l.gear _ here (without_none _ (omega arith)) l.invariant
