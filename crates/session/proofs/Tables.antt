@@ -237,6 +237,13 @@ pub entries_in_table : (t : Session) → entries_in (table_of t) ≡ entries_of 
 unfolding table_of
 entries_in_table t = taken empty_entry (entries_of t)
 
+-- of any table with the entries of a session, whatever stands behind them
+pub record WithEntries (t : Session) (r : Table) : Type 0 where
+  pub few : length (entries_in r) ≤ 16
+  pub gears : without_window t ≡ None → gears_in r ≡ gears_of t
+  pub windows : without_window t ≡ None → windows_in r ≡ windows_of t
+
+-- of the table of a session
 pub record Tabled (t : Session) (r : Table) : Type 0 where
   pub without_window_is : r.without_window ≡ without_window t
   pub few : r.count ≤ 16
@@ -252,14 +259,24 @@ all_places t =
     (λ l e. absurd (cc))
     (λ l e. le_antisymm (no_window_most t) (ltb-false (lowest_no_window t) 16 l))
 
-pub tabled : (t : Session) → Tabled t (table_of t)
-unfolding table_of entries_of gears_of windows_of remaining
-tabled t =
-    let e = entries_in_table t in
+pub with_entries : (t : Session) (r : Table) → entries_in r ≡ entries_of t → WithEntries t r
+unfolding entries_of gears_of windows_of remaining
+with_entries t r e =
     record {
-      without_window_is = refl;
-      few = omega (arith, few_remain t 0 (lowest_no_window t), no_window_most t);
-      counted = length-map (entries_in (table_of t)) (λ (x : Entry). x.gear) ∙ ap length e;
+      few = omega (arith, ap length e, few_remain t 0 (lowest_no_window t), no_window_most t);
       gears = λ h. ap (map (λ (x : Entry). x.gear)) e ∙ rw (all_places t h);
       windows = λ h. ap (map (λ (x : Entry). x.window)) e ∙ rw (all_places t h);
+    }
+
+pub tabled : (t : Session) → Tabled t (table_of t)
+unfolding table_of
+tabled t =
+    let e = entries_in_table t in
+    let here = with_entries t (table_of t) e in
+    record {
+      without_window_is = refl;
+      few = omega (arith, ap length e, here.few);
+      counted = length-map (entries_in (table_of t)) (λ (x : Entry). x.gear) ∙ ap length e;
+      gears = here.gears;
+      windows = here.windows;
     }
